@@ -1,3 +1,2 @@
 pub mod History
-pub mod Desk
 pub mod Seating

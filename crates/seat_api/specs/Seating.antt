@@ -3,11 +3,11 @@ use Rattle.std.specs.Prelude.{◌≡◌, ℕ, ◌<◌, ◌≤◌, List, [], ◌�
 use Rattle.atomic_table.specs.Seated.{TableId}
 use Rattle.dk_base.specs.declared.number.Tid.{Tid}
 use Rattle.written_kernel.specs.Words.{State}
-use Rattle.seat_replies.specs.declared.call.SeatAct.{SeatAct}
-use Rattle.seat_replies.specs.declared.call.SeatReply.{SeatReply}
-use Rattle.seat_turns.specs.declared.view.Stage.TheVariants.{Out}
-use Rattle.seat_turns.specs.Rule as turn
-use Rattle.seat_api.specs.declared.entry.SeatEntry.{SeatEntry}
+use Rattle.seat_calls.specs.declared.call.SeatAct.{SeatAct}
+use Rattle.seat_calls.specs.declared.call.SeatReply.{SeatReply}
+use Rattle.seat_table.specs.declared.view.Stage.TheVariants.{Out}
+use Rattle.seat_table.specs.Rule as turn
+use Rattle.seat_calls.specs.declared.entry.SeatEntry.{SeatEntry}
 use Rattle.seat_api.specs.declared.limits.TheConstants.{CALLS_MAX, SEATS_MAX}
 use Rattle.seat_api.specs.History.{IsLegal, by, reply_of, state_after}
 

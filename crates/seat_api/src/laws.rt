@@ -3,8 +3,8 @@
 ghost use Rattle.std.specs.Prelude.{◌≡◌, ◌+◌, ◌≤◌, List, length, map};
 ghost use Rattle.dk_base.specs.declared.limits.TheConstants.{EVENTS_MAX};
 ghost use Rattle.written_kernel.specs.Words.{IsRun, State, events_of, state_after as state_after_turns};
-ghost use Rattle.seat_api.specs.declared.entry.SeatEntry.{SeatEntry};
-ghost use Rattle.seat_replies.specs.declared.call.SeatReply.TheVariants.{Answer};
+ghost use Rattle.seat_calls.specs.declared.entry.SeatEntry.{SeatEntry};
+ghost use Rattle.seat_calls.specs.declared.call.SeatReply.TheVariants.{Answer};
 ghost use Rattle.seat_api.specs.History.{AreAnswers, IsLegal, answered, replies, state_after, turns};
 
 /// The answered calls of a legal history are a run from the same state (`run`), the replies to them are the answers of its events

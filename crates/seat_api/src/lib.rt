@@ -1,8 +1,8 @@
 //! Seats: a host's own threads act as threads of a kernel, and are answered from one legal history.
 #![tactic(auto)]
 
-mod desk;
 pub mod entry;
+pub mod kernel;
 pub mod laws;
 pub mod limits;
 pub mod opening;

@@ -1,3 +1,3 @@
 //! Room for an answer, which is taken before the kernel is called.
 
-pub use seat_replies::room::AnswerRoom;
+pub use seat_calls::room::AnswerRoom;

@@ -2,50 +2,53 @@
 ghost use Rattle.std.specs.Prelude.{◌≡◌, ◌+◌, ◌<◌, ◌≤◌, [], length, IfOk, IfErr, IsOk, true, OnErr};
 ghost use mathlib.Core.List.{IsPrefix};
 ghost use Rattle.written_kernel.specs.Words.{IsFit};
-ghost use Rattle.seat_replies.specs.declared.call.SeatAct.TheVariants.{Enter, GoOn};
-ghost use Rattle.seat_turns.specs.Rule.{longer};
+ghost use Rattle.seat_calls.specs.declared.call.SeatAct.TheVariants.{Enter, GoOn};
+ghost use Rattle.seat_table.specs.Rule.{longer};
 ghost use Rattle.seat_api.specs.declared.limits.TheConstants.{CALLS_MAX, HISTORY_MAX, SEATS_MAX};
 ghost use Rattle.seat_api.specs.History.{IsFitAct, is_allowed};
 ghost use Rattle.seat_api.specs.Seating.{Extends, IsSame};
 
-use crate::desk::Desk;
 use crate::entry::{SeatAct, SeatEntry, SeatReply};
+use crate::kernel::Answers;
 use crate::opening::Opening;
 use dk_base::error::NoMemory;
 use dk_base::number::Tid;
 use dk_base::request::Request;
 use kernel_core::kernel::Kernel;
-use seat_turns::turns::{Place, Turns};
+use seat_desk::desk::Desk;
+use seat_table::table::{Place, SeatTable};
+use seat_turns::turns::{meet, take_turn};
 use std::alloc::Global;
 use std::marker::Model;
 use std::sync::Wait;
 
-/// A kernel that seats share, with one history of their calls, which is legal from the state that `J` names. Contracts see which seats it is.
-pub struct Seats<J: Opening> {
-    turns: Turns<SeatEntry, Desk<J>>,
+/// A kernel that seats share, with one history of their calls, which is legal from the state that `J` names. Contracts see which seats it is. What
+/// follows is proved of whatever answers as a kernel, since the kernel's own type tells of all its parts.
+pub struct Seats<J: Opening, K: Answers = Kernel> {
+    table: SeatTable<SeatEntry, Desk<K, J>>,
 }
 
 /// By hand, so that dropping the seats is one call for their holder.
-impl<J: Opening> Drop for Seats<J> {
+impl<J: Opening, K: Answers> Drop for Seats<J, K> {
     fn drop(self) {
-        let Seats { turns: _ } = self;
+        let Seats { table: _ } = self;
     }
 }
 
-impl<J: Opening> Model for Seats<J> {
+impl<J: Opening, K: Answers> Model for Seats<J, K> {
     ghost use Rattle.atomic_table.specs.Seated.{TableId, table_id_coded};
 
     ghost Value = { TableId };
 
     ghost coded = { table_id_coded };
 
-    ghost view = { λ s. s.turns };
+    ghost view = { λ s. s.table };
 }
 
 /// A seat, with which one thread of the host acts as a thread of the kernel. What it has seen of the history, and which of its entries are its
 /// own, contracts see; it takes no memory.
-pub struct Seat<J: Opening> {
-    place: Place<SeatEntry, Desk<J>>,
+pub struct Seat<J: Opening, K: Answers = Kernel> {
+    place: Place<SeatEntry, Desk<K, J>>,
     number: u32,
     thread: Tid,
     next: u32,
@@ -54,7 +57,7 @@ pub struct Seat<J: Opening> {
 }
 
 /// By hand, so that dropping a seat is one call for its holder.
-impl<J: Opening> Drop for Seat<J> {
+impl<J: Opening, K: Answers> Drop for Seat<J, K> {
     fn drop(self) {
         let Seat {
             place: _,
@@ -67,7 +70,7 @@ impl<J: Opening> Drop for Seat<J> {
     }
 }
 
-impl<J: Opening> Model for Seat<J> {
+impl<J: Opening, K: Answers> Model for Seat<J, K> {
     ghost use Rattle.seat_api.specs.Seating.{Chair, Sits};
 
     ghost Value = { Chair };
@@ -77,7 +80,7 @@ impl<J: Opening> Model for Seat<J> {
     ghost invariant = { λ s. Sits s.place.me s.number s.made s.calls s.next };
 }
 
-impl<J: Opening> Seat<J> {
+impl<J: Opening, K: Answers> Seat<J, K> {
     /// Seats are numbered from 0 as they were made.
     pub fn number(&self) -> u32
         ensures { result ≡ self.now.number }
@@ -107,21 +110,21 @@ impl<J: Opening> Seat<J> {
     }
 }
 
-impl<J: Opening> Seats<J> {
+impl<J: Opening, K: Answers> Seats<J, K> {
     /// Seats at a kernel that has made no event, and the first of them. J names the state of the kernel; a kernel without events has forgotten
     /// nothing, so it stands for this state alone. Where memory runs out the kernel comes back as it was.
-    pub fn new(alloc: Global, kernel: Kernel, t: Tid) -> Result<(Self, Seat<J>), Kernel>
-        requires opening { kernel ≡ J.opening }
-        requires no_event { kernel.events ≡ 0 }
+    pub fn new(alloc: Global, kernel: K, t: Tid) -> Result<(Self, Seat<J, K>), K>
+        requires opening { K.keeps kernel ≡ J.opening }
+        requires no_event { (K.keeps kernel).events ≡ 0 }
         requires declared { (1 ≤ t.0) × (t.0 ≤ length J.opening.process_table.threads) }
         ensures own { IfOk result (λ s. s.1.table ≡ s.0) }
         ensures first { IfOk result (λ s. (s.1.number ≡ 0) × (s.1.thread ≡ t) × (s.1.next ≡ 1) × (s.1.calls ≡ 0)) }
         ensures history { IfOk result (λ s. (s.1.seen ≡ []) × (s.1.mine ≡ [])) }
-        ensures err { IfErr result (λ k. k ≡ kernel) }
+        ensures err { IfErr result (λ k. K.keeps k ≡ K.keeps kernel) }
     {
-        match Turns::new(alloc, Desk::new(alloc, kernel)?) {
-            Ok((turns, place)) => Ok((
-                Seats { turns },
+        match SeatTable::new(alloc, Desk::new(alloc, kernel)?) {
+            Ok((table, place)) => Ok((
+                Seats { table },
                 Seat {
                     place,
                     number: 0,
@@ -136,7 +139,7 @@ impl<J: Opening> Seats<J> {
     }
 
     /// Another seat. It has seen what the first one has, and takes no memory.
-    pub fn split(&self, first: &mut Seat<J>, t: Tid) -> Result<Seat<J>, NoMemory>
+    pub fn split(&self, first: &mut Seat<J, K>, t: Tid) -> Result<Seat<J, K>, NoMemory>
         requires own { first.old.table ≡ self.now }
         requires first { first.old.number ≡ 0 }
         requires few { first.old.next < SEATS_MAX }
@@ -147,7 +150,7 @@ impl<J: Opening> Seats<J> {
         ensures history { IfOk result (λ s. (s.seen ≡ first.old.seen) × (s.mine ≡ [])) }
         ensures first { first.new ≡ record first.old { next = first.old.next + 1 } }
     {
-        let place = self.turns.split(&mut first.place);
+        let place = self.table.split(&mut first.place);
         let number = first.next;
         first.next += 1;
         Ok(Seat {
@@ -166,7 +169,7 @@ impl<J: Opening> Seats<J> {
     pub fn enter<R: Wait>(
         &self,
         rt: &R,
-        seat: &mut Seat<J>,
+        seat: &mut Seat<J, K>,
         request: Request,
     ) -> Result<SeatReply, NoMemory>
         requires own { seat.old.table ≡ self.now }
@@ -183,7 +186,7 @@ impl<J: Opening> Seats<J> {
 
     /// The seat's thread goes on from a wait. It may wait for its turn. Where memory runs out there is no entry; all is as before, but the number of the
     /// seat's calls.
-    pub fn go_on<R: Wait>(&self, rt: &R, seat: &mut Seat<J>) -> Result<SeatReply, NoMemory>
+    pub fn go_on<R: Wait>(&self, rt: &R, seat: &mut Seat<J, K>) -> Result<SeatReply, NoMemory>
         requires own { seat.old.table ≡ self.now }
         requires few { seat.old.calls < CALLS_MAX }
         ensures same { IsSame seat.old seat.new × (seat.new.next ≡ seat.old.next) }
@@ -195,18 +198,18 @@ impl<J: Opening> Seats<J> {
     }
 
     /// The length of the history, which is not below that of what the seat has seen. It waits for nobody, and takes no memory.
-    pub fn seen(&self, seat: &mut Seat<J>) -> u64
+    pub fn seen(&self, seat: &mut Seat<J, K>) -> u64
         requires { seat.old.table ≡ self.now }
         ensures length { length seat.old.seen ≤ result }
         ensures few { result ≤ HISTORY_MAX }
         ensures seat { seat.new ≡ seat.old }
     {
-        self.turns.seen(&mut seat.place)
+        self.table.seen(&mut seat.place)
     }
 
     /// Two seats compare what they have seen: one is the beginning of the other, and the first seat has the longer now. It waits for nobody, makes no
     /// entry, and takes no memory.
-    pub fn meet(&self, a: &mut Seat<J>, b: &mut Seat<J>) -> Result<(), NoMemory>
+    pub fn meet(&self, a: &mut Seat<J, K>, b: &mut Seat<J, K>) -> Result<(), NoMemory>
         requires own { (a.old.table ≡ self.now) × (b.old.table ≡ self.now) }
         ensures met { IsOk result }
         ensures begins { IsPrefix a.old.seen a.new.seen × IsPrefix b.old.seen a.new.seen }
@@ -214,12 +217,17 @@ impl<J: Opening> Seats<J> {
         ensures a { IsSame a.old a.new × (a.new.next ≡ a.old.next) × (a.new.calls ≡ a.old.calls) × (a.new.mine ≡ a.old.mine) }
         ensures b { b.new ≡ b.old }
     {
-        self.turns.meet(&mut a.place, &mut b.place);
+        meet(&self.table, &mut a.place, &mut b.place);
         Ok(())
     }
 
     // One call of the seat's thread, in its turn. A call that wants memory leaves the turn without an entry.
-    fn call<R: Wait>(&self, rt: &R, seat: &mut Seat<J>, act: SeatAct) -> Result<SeatReply, NoMemory>
+    fn call<R: Wait>(
+        &self,
+        rt: &R,
+        seat: &mut Seat<J, K>,
+        act: SeatAct,
+    ) -> Result<SeatReply, NoMemory>
         requires own { seat.old.table ≡ self.now }
         requires few { seat.old.calls < CALLS_MAX }
         requires fit { IsFitAct J.opening seat.old.thread.0 act }
@@ -229,15 +237,15 @@ impl<J: Opening> Seats<J> {
         ensures err { OnErr result ((seat.new.seen ≡ seat.old.seen) × (seat.new.mine ≡ seat.old.mine)) }
     {
         seat.calls += 1;
-        let mut desk = self.turns.take_turn(rt, &mut seat.place);
+        let mut desk = take_turn(&self.table, rt, &mut seat.place);
         match desk.make(seat.number, seat.made, seat.thread, act) {
             Ok(reply) => {
-                self.turns.end_turn(&mut seat.place, desk);
+                self.table.end_turn(&mut seat.place, desk);
                 seat.made += 1;
                 Ok(reply)
             }
             Err(full) => {
-                self.turns.leave_turn(&mut seat.place, desk);
+                self.table.leave_turn(&mut seat.place, desk);
                 Err(full)
             }
         }

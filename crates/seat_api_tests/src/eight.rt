@@ -50,6 +50,9 @@ fn rings(word: &AtomicU64) {
     word.wake_all();
 }
 
+/// All calls of each process, 64,032 together.
+static ALL: [u64; 8] = [CALLS; 8];
+
 /// The seats of a process.
 #[derive(Drop)]
 struct Pair<C> {
@@ -111,19 +114,19 @@ fn are_made<C: Caller + Drop>(first: &mut C, pairs: &mut Vec<Pair<C>>) -> bool
     true
 }
 
-/// How many calls of all are replied as they are written.
-fn right_calls_of_all<R: Threads + Wait + Sync, C: Caller + Send + Drop>(
+/// Whether all calls of all are replied as they are written.
+fn all_are_right<R: Threads + Wait + Sync, C: Caller + Send + Drop>(
     rt: &R,
     all: &Made,
     pairs: Vec<Pair<C>>,
-) -> u64 {
+) -> bool {
     match thread::map_vec(
         rt,
         pairs,
         &|mut pair: Pair<C>| right_calls(rt, all, &mut pair),
     ) {
-        Ok(right) => right.iter().fold(0, |sum: u64, n| sum.wrapping_add(*n)),
-        Err(_) => 0,
+        Ok(right) => right.as_slice() == ALL.as_slice(),
+        Err(_) => false,
     }
 }
 
@@ -136,7 +139,5 @@ pub fn are_right<R: Threads + Wait + Sync, C: Caller + Send + Drop>(
     requires threads { C.threads ≡ 16 }
 {
     let mut pairs = Vec::new(alloc);
-    are_made(first, &mut pairs)
-        && right_calls_of_all(rt, &none(), pairs) == 64_032
-        && first.seen() == 64_032
+    are_made(first, &mut pairs) && all_are_right(rt, &none(), pairs) && first.seen() == 64_032
 }

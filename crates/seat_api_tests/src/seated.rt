@@ -9,6 +9,7 @@ use crate::{doors, eight, limits, rows};
 use dk_base::list::IdList;
 use dk_base::number::{Pid, Tid};
 use kernel_core::kernel::Kernel;
+use seat_api::kernel::Answers;
 use seat_api::opening::Opening;
 use seat_api::seats::Seats;
 use std::alloc::Global;
@@ -46,18 +47,18 @@ fn does<R: Threads + Wait + Sync, C: Caller + Send + Drop>(
     }
 }
 
-fn is_done_at<R: Threads + Wait + Sync, J: Opening + Send + Sync>(
+fn is_done_at<R: Threads + Wait + Sync, J: Opening + Send + Sync, K: Answers + Send + Sync>(
     rt: &R,
     alloc: Global,
-    kernel: Kernel,
+    kernel: K,
     threads: u32,
     deed: Deed,
 ) -> Option<bool>
-    requires opening { kernel ≡ J.opening }
-    requires no_event { kernel.events ≡ 0 }
-    requires threads { (2 ≤ threads) × (length kernel.process_table.threads ≡ threads) }
+    requires opening { K.keeps kernel ≡ J.opening }
+    requires no_event { (K.keeps kernel).events ≡ 0 }
+    requires threads { (2 ≤ threads) × (length (K.keeps kernel).process_table.threads ≡ threads) }
 {
-    match Seats::<J>::new(alloc, kernel, Tid(1)) {
+    match Seats::<J, K>::new(alloc, kernel, Tid(1)) {
         Ok((seats, seat)) => {
             let first = Sitter {
                 rt,
@@ -89,7 +90,6 @@ fn are_added(kernel: &mut Kernel, processes: u32, threads: u32) -> bool
 
 /// Whether it is done at a kernel of processes with these limits of descriptors, and so many threads. None where there was no memory to make the
 /// kernel or its seats.
-#[tactic(auto, using(written_kernel::proofs::Opening::opening_processes, written_kernel::proofs::Opening::opening_threads, written_kernel::proofs::Opening::opening_events))]
 pub fn is_done<R: Threads + Wait + Sync>(
     rt: &R,
     alloc: Global,
@@ -107,7 +107,7 @@ pub fn is_done<R: Threads + Wait + Sync>(
     match Kernel::new(alloc, &limits) {
         Ok(mut kernel) => {
             if are_added(&mut kernel, limits.len() as u32, threads) {
-                is_done_at::<R, Brand>(rt, alloc, kernel, threads, deed)
+                is_done_at::<R, Brand, Kernel>(rt, alloc, kernel, threads, deed)
             } else {
                 None
             }

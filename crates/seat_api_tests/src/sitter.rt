@@ -4,6 +4,7 @@ ghost use Rattle.std.specs.Prelude.{◌≡◌, length};
 use crate::caller::Caller;
 use crate::calls::{Asks, Came, Gives, request, what_came};
 use dk_base::number::Tid;
+use seat_api::kernel::Answers;
 use seat_api::limits::{CALLS_MAX, SEATS_MAX};
 use seat_api::opening::Opening;
 use seat_api::seats::{Seat, Seats};
@@ -13,15 +14,15 @@ use std::sync::Wait;
 
 /// A seat, with the seats that it is one of.
 #[derive(Drop)]
-pub struct Sitter<'a, R, J: Opening> {
+pub struct Sitter<'a, R, J: Opening, K: Answers> {
     pub rt: &'a R,
     pub alloc: Global,
-    pub seats: &'a Seats<J>,
-    pub seat: Seat<J>,
+    pub seats: &'a Seats<J, K>,
+    pub seat: Seat<J, K>,
     ghost own: { seat.table ≡ seats.now },
 }
 
-impl<'a, R: Wait, J: Opening> Caller for Sitter<'a, R, J> {
+impl<'a, R: Wait, J: Opening, K: Answers> Caller for Sitter<'a, R, J, K> {
     ghost use Rattle.std.specs.Prelude.{length};
 
     ghost threads = { length J.opening.process_table.threads };

@@ -12,6 +12,7 @@ use dk_base::number::{Fd, Pid, Tid};
 use dk_base::request::Request;
 use kernel_core::kernel::Kernel;
 use seat_api::entry::SeatReply;
+use seat_api::kernel::Answers;
 use seat_api::opening::Opening;
 use seat_api::seats::{Seat, Seats};
 use std::alloc::Global;
@@ -122,15 +123,15 @@ fn run_both<R: Threads, W: Work<Output = ()> + Send + Drop>(rt: &R, first: W, se
 
 /// A worker sends its events, which carry 0, 1, 2 and so on.
 #[derive(Drop)]
-struct Worker<'a, R, J: Opening> {
+struct Worker<'a, R, J: Opening, K: Answers> {
     rt: &'a R,
-    seats: &'a Seats<J>,
+    seats: &'a Seats<J, K>,
     bell: &'a AtomicU64,
-    seat: Seat<J>,
+    seat: Seat<J, K>,
     number: u32,
 }
 
-impl<'a, R: Wait, J: Opening> Work for Worker<'a, R, J> {
+impl<'a, R: Wait, J: Opening, K: Answers> Work for Worker<'a, R, J, K> {
     type Output = ();
 
     ghost ready = { λ w. (w.seat.table ≡ w.seats.now) × (w.seat.calls ≡ 0) };
@@ -160,11 +161,11 @@ fn is_wait(reply: &Result<SeatReply, NoMemory>) -> bool {
 }
 
 /// The next event, of which so many were taken. Where there is none yet the kernel's thread waits at the port, and the host's for the bell.
-fn next<J: Opening, R: Wait>(
+fn next<J: Opening, K: Answers, R: Wait>(
     rt: &R,
-    seats: &Seats<J>,
+    seats: &Seats<J, K>,
     bell: &AtomicU64,
-    seat: &mut Seat<J>,
+    seat: &mut Seat<J, K>,
     taken: u64,
 ) -> Result<SeatReply, NoMemory>
     requires own { seat.old.table ≡ seats.now }
@@ -198,14 +199,14 @@ fn count_in_order(counts: &mut [u64; 2], reply: &Result<SeatReply, NoMemory>) {
 
 /// The event loop takes all events, and counts those of each worker that came in their order.
 #[derive(Drop)]
-struct EventLoop<'a, R, J: Opening> {
+struct EventLoop<'a, R, J: Opening, K: Answers> {
     rt: &'a R,
-    seats: &'a Seats<J>,
+    seats: &'a Seats<J, K>,
     bell: &'a AtomicU64,
-    seat: Seat<J>,
+    seat: Seat<J, K>,
 }
 
-impl<'a, R: Wait, J: Opening> Work for EventLoop<'a, R, J> {
+impl<'a, R: Wait, J: Opening, K: Answers> Work for EventLoop<'a, R, J, K> {
     type Output = [u64; 2];
 
     ghost ready = { λ e. (e.seat.table ≡ e.seats.now) × (e.seat.calls ≤ 1) };
@@ -227,76 +228,70 @@ impl<'a, R: Wait, J: Opening> Work for EventLoop<'a, R, J> {
     }
 }
 
-/// How many events of each worker came in their order.
-fn run_seats<R: Threads + Wait + Sync, J: Opening + Send + Sync>(
+/// How many events of each worker came in their order. The first seat makes the port, and splits off the workers'.
+fn run_seats<R: Threads + Wait + Sync, J: Opening + Send + Sync, K: Answers + Send + Sync>(
     rt: &R,
-    seats: &Seats<J>,
-    taker: Seat<J>,
-    first: Seat<J>,
-    second: Seat<J>,
+    seats: &Seats<J, K>,
+    mut taker: Seat<J, K>,
 ) -> [u64; 2]
-    requires taker { (taker.table ≡ seats.now) × (taker.calls ≤ 1) }
-    requires first { (first.table ≡ seats.now) × (first.calls ≡ 0) }
-    requires second { (second.table ≡ seats.now) × (second.calls ≡ 0) }
+    requires own { taker.table ≡ seats.now }
+    requires first { (taker.number ≡ 0) × (taker.next ≡ 1) × (taker.calls ≡ 0) }
+    requires threads { length J.opening.process_table.threads ≡ 3 }
 {
     let bell = &AtomicU64::new(0);
-    let taker = EventLoop {
-        rt,
-        seats,
-        bell,
-        seat: taker,
-    };
     let first = Worker {
         rt,
         seats,
         bell,
-        seat: first,
+        seat: seats.split(&mut taker, Tid(2)).unwrap(),
         number: 0,
     };
     let second = Worker {
         rt,
         seats,
         bell,
-        seat: second,
+        seat: seats.split(&mut taker, Tid(3)).unwrap(),
         number: 1,
+    };
+    drop(seats.enter(rt, &mut taker, Request::PortCreate));
+    let taker = EventLoop {
+        rt,
+        seats,
+        bell,
+        seat: taker,
     };
     run_all(rt, taker, first, second)
 }
 
-/// The program over a kernel, whose state J names. None where there is no memory for the seats.
-fn run<J: Opening + Send + Sync, R: Threads + Wait + Sync>(
+/// The program over a kernel K, whose state J names. None where there is no memory for the seats.
+fn run<J: Opening + Send + Sync, K: Answers + Send + Sync, R: Threads + Wait + Sync>(
     rt: &R,
     alloc: Global,
-    kernel: Kernel,
+    kernel: K,
 ) -> Option<[u64; 2]>
-    requires opening { kernel ≡ J.opening }
-    requires no_event { kernel.events ≡ 0 }
-    requires threads { length kernel.process_table.threads ≡ 3 }
+    requires opening { K.keeps kernel ≡ J.opening }
+    requires no_event { (K.keeps kernel).events ≡ 0 }
+    requires threads { length (K.keeps kernel).process_table.threads ≡ 3 }
 {
-    let Ok((seats, mut taker)) = Seats::<J>::new(alloc, kernel, Tid(1)) else {
-        return None;
-    };
-    let first = seats.split(&mut taker, Tid(2)).unwrap();
-    let second = seats.split(&mut taker, Tid(3)).unwrap();
-    drop(seats.enter(rt, &mut taker, Request::PortCreate));
-    Some(run_seats(rt, &seats, taker, first, second))
+    match Seats::<J, K>::new(alloc, kernel, Tid(1)) {
+        Ok((seats, taker)) => Some(run_seats(rt, &seats, taker)),
+        Err(_) => None,
+    }
 }
 
-fn print<R: Print>(rt: &R, worker: u32, count: u64) -> io::Result<()> {
-    println!(rt; "worker {worker}: {count} events in order")
+fn print<R: Print>(rt: &R, counts: [u64; 2]) -> io::Result<()> {
+    let [first, second] = counts;
+    println!(rt; "worker 1: {first} events in order\nworker 2: {second} events in order")
 }
 
 fn main(rt: HostRuntime) -> io::Result<()> {
     let alloc = rt.alloc();
     let counts = match one_process(alloc) {
-        Ok(kernel) => run::<Brand, _>(&rt, alloc, kernel),
+        Ok(kernel) => run::<Brand, Kernel, _>(&rt, alloc, kernel),
         Err(NoMemory) => None,
     };
     match counts {
-        Some(counts) => {
-            print(&rt, 1, counts[0])?;
-            print(&rt, 2, counts[1])
-        }
+        Some(counts) => print(&rt, counts),
         None => Err(io::ErrorKind::OutOfMemory.into()),
     }
 }

@@ -2,10 +2,10 @@
 use Rattle.std.proofs.Common.{◌≡◌, ℕ, true, if◌then◌else◌, None, ap, sym, subst, ◌∙◌}
 use Rattle.written_kernel.specs.Types.{Answer as AnswerValue}
 use Rattle.written_kernel.specs.Words.{StandsFor, State, event_of, output_at, state_of, step, with_output}
-use Rattle.seat_replies.specs.declared.call.SeatAct.{SeatAct}
-use Rattle.seat_replies.specs.declared.call.SeatReply.{SeatReply}
-use Rattle.seat_replies.specs.declared.call.SeatReply.TheVariants.{Answer}
-use Rattle.seat_replies.specs.Replies.{is_answered, refusal, reply_of, request_of, state_by}
+use Rattle.seat_calls.specs.declared.call.SeatAct.{SeatAct}
+use Rattle.seat_calls.specs.declared.call.SeatReply.{SeatReply}
+use Rattle.seat_calls.specs.declared.call.SeatReply.TheVariants.{Answer}
+use Rattle.seat_calls.specs.Replies.{is_answered, refusal, reply_of, request_of, state_by}
 
 abbrev answer_shown : State → ℕ → SeatAct → SeatReply
 answer_shown m t a = Answer (event_of m t (request_of a)).answer

@@ -1,6 +1,4 @@
-//! Calls of seats, and what a kernel replies to them.
+//! What a kernel replies to a call of a seat.
 #![tactic(auto)]
 
-pub mod call;
 pub mod replies;
-pub mod room;

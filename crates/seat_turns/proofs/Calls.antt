@@ -1,38 +1,56 @@
--- What a turn does, put together from its steps.
-use Rattle.std.proofs.Common.{◌≡◌, ℕ, ◌+◌, ◌%◌, ◌^◌, List, [], ◌∷◌, ◌++◌, Option, None, Some, refl, ap, sym, subst, ◌∙◌}
-use mathlib.Core.Option.{none}
-use Rattle.atomic_table.specs.Table.{Allows, rest, step}
-use Rattle.seat_turns.specs.declared.view.View.{View}
-use Rattle.seat_turns.specs.Rule.{Appends, Called, HasTurn, InTurn, IsWaiting, Kept, Looks, Sitting, TakesTurn, drawn, held, told, turned, turns}
-use Rattle.seat_turns.proofs.Lists.{first_is, second_is}
-use Rattle.seat_turns.proofs.Rules.{appends, looks}
+-- What a turn and a meeting do, put together from steps of the table.
+use Rattle.std.proofs.Common.{◌≡◌, ℕ, List, [], ◌∷◌, Option, None, Some, ap, sym, subst, ◌∙◌}
+use mathlib.Core.List.{IsPrefix}
+use Rattle.seat_table.specs.declared.view.View.{View}
+use Rattle.seat_table.specs.Rule.{Called, HasTurn, IsWaiting, MayDraw, Sitting, TakesTurn, drawn, joined, note_of, ticket_in, turned}
+use Rattle.seat_table.specs.Sums.{Every}
+use Rattle.seat_table.proofs.Lists.{first_is, second_is}
+
+module _ {A : Type 0} (P : A → Type 0) where
+  first_of : (x : A) (xs : List A) → Every P (x ∷ xs) → P x
+  first_of x xs h = h.0
+
+  rest_of : (x : A) (xs : List A) → Every P (x ∷ xs) → Every P xs
+  rest_of x xs h = h.1
 
 module _ {E D : Type 0} where
-  -- the value is given back to the slot of a seat `m` in its turn, which makes it `n`
+  -- a seat that has drawn a ticket waits with it
+  pub drawn_waits : (m n : Sitting E D) (t : ℕ) → (n.0 ≡ drawn m.0 t) × (n.1 ≡ m.1) → MayDraw m → IsWaiting n t
+  drawn_waits m n t draws may =
+      (ap (λ (v : View E). v.sits) draws.0 ∙ may.0, ap (λ (v : View E). v.stage) draws.0, draws.1 ∙ may.2)
 
-  pub given : (m n : Sitting E D) (d : D) → n ≡ (m.0, (0, Some d) ∷ rest m.1) → n.0 ≡ m.0
-  given m n d is = first_is n m.0 ((0, Some d) ∷ rest m.1) is
+  -- what a seat waits with is its own ticket
+  pub own_ticket : (m n : Sitting E D) (t : ℕ) → n ≡ m → IsWaiting m t → ticket_in n.0.stage ≡ t
+  own_ticket m n t is waits = ap (λ (s : Sitting E D). ticket_in s.0.stage) is ∙ ap ticket_in waits.1
 
-  holding : (m n : Sitting E D) (d : D) → InTurn m → n ≡ (m.0, (0, Some d) ∷ rest m.1) → n.1 ≡ (0, Some d) ∷ []
-  holding m n d turn is = second_is n m.0 ((0, Some d) ∷ rest m.1) is ∙ (λ i. (0, Some d) ∷ ap rest turn.2 i)
+  pub still_waits : (m n : Sitting E D) (t : ℕ) → n ≡ m → IsWaiting m t → (t : ℕ) × IsWaiting n t
+  still_waits m n t is waits = (t, subst (λ (s : Sitting E D). IsWaiting s t) (sym is) waits)
 
-  pub given_turn : (m n : Sitting E D) (d : D) → InTurn m → n ≡ (m.0, (0, Some d) ∷ rest m.1) → turns n.0.stage ≡ 1
-  given_turn m n d turn is = ap (λ (v : View E). turns v.stage) (given m n d is) ∙ ap turns turn.1.1
+  -- `n` has joined a note of what another seat has seen to what `m` had seen, and `k` is as `n`
+  pub met :
+      (m n k note : Sitting E D) (xs : List E) → note ≡ (note_of xs, []) → n ≡ (joined m.0 note.0, m.1) →
+      Every (λ ys. IsPrefix ys n.0.seen) n.0.olds → k ≡ n → IsPrefix m.0.seen k.0.seen × IsPrefix xs k.0.seen
+  met m n k note xs is joins olds same =
+      let now : View E = joined m.0 (note_of xs) in
+      let there : n.0 ≡ now = ap (λ (s : Sitting E D). s.0) joins ∙ (λ i. joined m.0 (first_is note (note_of xs) [] is i)) in
+      let P : List E → Type 0 = λ ys. IsPrefix ys now.seen in
+      let begins : Every P (m.0.seen ∷ xs ∷ []) = subst (λ (v : View E). Every (λ ys. IsPrefix ys v.seen) v.olds) there olds in
+      let both : IsPrefix m.0.seen now.seen × IsPrefix xs now.seen =
+      (first_of P m.0.seen (xs ∷ []) begins, first_of P xs [] (rest_of P m.0.seen (xs ∷ []) begins)) in
+      subst (λ (v : View E). IsPrefix m.0.seen v.seen × IsPrefix xs v.seen) (sym (ap (λ (s : Sitting E D). s.0) same ∙ there)) both
 
-module _ {E D : Type 0} (history : D → List E) where
-  pub given_back :
-      (m n : Sitting E D) (d : D) → InTurn m → n ≡ (m.0, (0, Some d) ∷ rest m.1) → history d ≡ m.0.whole →
-      (d : D) × (n.1 ≡ (0, Some d) ∷ []) × (history d ≡ n.0.whole)
-  given_back m n d turn is same = (d, holding m n d turn is, same ∙ ap (λ (v : View E). v.whole) (sym (given m n d is)))
+  pub met_view :
+      (m n k note : Sitting E D) (xs : List E) → note ≡ (note_of xs, []) → n ≡ (joined m.0 note.0, m.1) → k ≡ n →
+      k ≡ (joined m.0 (note_of xs), m.1)
+  met_view m n k note xs is joins same = same ∙ (joins ∙ (λ i. (joined m.0 (first_is note (note_of xs) [] is i), m.1)))
 
 module _ {E D : Type 0} (history : D → List E) (seat : E → ℕ) where
-  -- a seat that waits looks which ticket is served
-  pub looks_on :
-      (slots id t : ℕ) (m n : Sitting E D) → n ≡ m → IsWaiting m t →
-      Allows (Kept history seat) slots id n 1 (λ k. k) (Looks history seat (step slots 1 0 0 none) n)
-  looks_on slots id t m n is waits =
-      subst (λ x. Allows (Kept history seat) slots id x 1 (λ k. k) (Looks history seat (step slots 1 0 0 none) x)) (sym is)
-      (looks history seat slots id t m waits.0 waits.1 waits.2)
+  -- `n` waits as `m`, and has the turn in `k` where its own ticket is served
+  pub served :
+      (m n k : Sitting E D) (t r : ℕ) → n ≡ m → IsWaiting m t → (r ≡ ticket_in n.0.stage → HasTurn history seat n k) → r ≡ t →
+      HasTurn history seat m k
+  served m n k t r is waits turn hit =
+      subst (λ (s : Sitting E D). HasTurn history seat s k) is (turn (hit ∙ sym (own_ticket m n t is waits)))
 
   abbrev value_in : D → List (ℕ × Option D) → D
   value_in e [] = e
@@ -54,32 +72,3 @@ module _ {E D : Type 0} (history : D → List E) (seat : E → ℕ) where
             ∙ (λ i. (turned (draws i) (history (same i)), (0, None) ∷ [])),
         record { seen = called.seen; mine = called.mine; few = called.few },
       )
-
-  -- the value is given back with one entry more, which makes it `n`, and the entry is told, which makes it `k`
-
-  pub appends_given :
-      (slots id : ℕ) (m n : Sitting E D) (d : D) → InTurn m → n ≡ (m.0, (0, Some d) ∷ rest m.1) →
-      (e : E) × (history d ≡ m.0.whole ++ e ∷ []) × (seat e ≡ m.0.number) →
-      Allows (Kept history seat) slots id n 2 (λ k. (k + 1) % 2 ^ 64) (Appends history seat (step slots 2 1 0 none) n)
-  appends_given slots id m n d turn is entry =
-      let there : n ≡ (m.0, (0, Some d) ∷ []) = is ∙ (λ i. (m.0, (0, Some d) ∷ ap rest turn.2 i)) in
-      subst (λ x. Allows (Kept history seat) slots id x 2 (λ k. (k + 1) % 2 ^ 64) (Appends history seat (step slots 2 1 0 none) x)) (sym there)
-      (appends history seat slots id turn.1.0 (m.0, (0, Some d) ∷ []) d entry.0 turn.0 turn.1.1 refl entry.1 entry.2)
-
-  pub told_turn : (n k : Sitting E D) (all : List E) → k.0 ≡ told seat n.0 all → turns k.0.stage ≡ 1
-  told_turn n k all is = ap (λ (v : View E). turns v.stage) is
-
-  -- what the seat holds is the value
-  holds_history : (m n : Sitting E D) (d : D) → InTurn m → n ≡ (m.0, (0, Some d) ∷ rest m.1) → held history n.1 ≡ history d
-  holds_history m n d turn is = ap (held history) (holding m n d turn is)
-
-  pub told_view :
-      (m n k : Sitting E D) (d : D) → InTurn m → n ≡ (m.0, (0, Some d) ∷ rest m.1) → k.0 ≡ told seat n.0 (held history n.1) →
-      k.0 ≡ told seat m.0 (history d)
-  told_view m n k d turn is entry = entry ∙ (λ i. told seat (given m n d is i) (holds_history m n d turn is i))
-
-  pub told_back :
-      (m n k : Sitting E D) (d : D) → InTurn m → n ≡ (m.0, (0, Some d) ∷ rest m.1) → k.0 ≡ told seat n.0 (held history n.1) → k.1 ≡ n.1 →
-      (d : D) × (k.1 ≡ (0, Some d) ∷ []) × (history d ≡ k.0.whole)
-  told_back m n k d turn is entry kept =
-      (d, kept ∙ holding m n d turn is, sym (ap (λ (v : View E). v.whole) entry ∙ holds_history m n d turn is))

@@ -1,9 +1,4 @@
-//! Turns at one value: seats draw tickets for it, and each seat knows a beginning of the value's history.
+//! Turns at the value of a table that seats share, and what two seats have seen of its history.
 #![tactic(auto)]
 
-pub mod limits;
-mod rule;
 pub mod turns;
-pub mod view;
-
-pub use rule::Recorded;

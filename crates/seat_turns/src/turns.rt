@@ -1,181 +1,65 @@
-//! The table that seats share, at whose value they take turns.
-ghost use Rattle.std.specs.Prelude.{◌≡◌, ◌<◌, ◌≤◌, [], ◌∷◌, ◌++◌, length, Some, None, IfOk, IfErr};
+//! How a seat comes to its turn, and how two seats meet.
+ghost use Rattle.std.specs.Prelude.{◌≡◌};
 ghost use mathlib.Core.List.{IsPrefix};
-ghost use Rattle.seat_turns.specs.declared.limits.TheConstants.{HISTORY_MAX, SEATS_MAX};
-ghost use Rattle.seat_turns.specs.declared.view.Stage.TheVariants.{Out};
-ghost use Rattle.seat_turns.specs.Rule.{HasTurn, InTurn, IsWaiting, MayDraw, TakesTurn, joined, left, note_of, opened, split_left, split_right, told, turns};
+ghost use Rattle.seat_table.specs.declared.view.Stage.TheVariants.{Out};
+ghost use Rattle.seat_table.specs.Rule.{HasTurn, IsWaiting, MayDraw, TakesTurn, joined, note_of};
 
-use crate::rule::{Append, Draw, Leave, Look, Note, OneHistory, Read, Recorded, Share};
-use crate::view::View;
-use atomic_table::{Refused, Seat, Table};
-use std::alloc::Global;
-use std::marker::Model;
+use seat_table::Recorded;
+use seat_table::table::{Place, SeatTable};
 use std::sync::Wait;
 
-// the words of the table
-
-const TICKET: usize = 0;
-
-const SERVING: usize = 1;
-
-const COUNT: usize = 2;
-
-/// What one seat knows, and whether it has the turn. It has no bytes.
-pub type Place<E, D> = Seat<Option<D>, View<E>>;
-
-/// A value that seats take turns at, with one history of what they did. Contracts see which seats these are.
-pub struct Turns<E, D: Recorded<E>> {
-    table: Table<Option<D>, View<E>, (), OneHistory, Global>,
+/// Draws a ticket, waits until it is served, and takes the value.
+pub fn take_turn<E, D: Recorded<E> + Drop, R: Wait>(
+    table: &SeatTable<E, D>,
+    rt: &R,
+    place: &mut Place<E, D>,
+) -> D
+    requires own { place.old.table_id ≡ table.now }
+    requires may { MayDraw place.old.me }
+    ensures own { place.new.table_id ≡ place.old.table_id }
+    ensures turn { TakesTurn D.history D.seat place.old.me place.new.me result }
+{
+    let ticket = table.draw(place);
+    wait_turn(table, rt, place, ticket);
+    table.take(place)
 }
 
-impl<E, D: Recorded<E> + Drop> Drop for Turns<E, D> {
-    fn drop(self) {
-        let Turns { table: _ } = self;
-    }
-}
-
-impl<E, D: Recorded<E>> Model for Turns<E, D> {
-    ghost use Rattle.std.specs.Prelude.{◌≡◌};
-    ghost use Rattle.atomic_table.specs.Seated.{TableId, table_id_coded};
-
-    ghost Value = { TableId };
-
-    ghost coded = { table_id_coded };
-
-    ghost view = { λ t. t.table.shared.table_id };
-
-    ghost invariant = { λ t. (t.table.shared.table_id.words ≡ 3) × (t.table.shared.table_id.slots ≡ 1) };
-}
-
-impl<E, D: Recorded<E> + Drop> Turns<E, D> {
-    /// Turns at a value without entries, and the first seat. Where memory runs out the value comes back as it was.
-    pub fn new(alloc: Global, value: D) -> Result<(Self, Place<E, D>), D>
-        requires { D.history value ≡ [] }
-        ensures own { IfOk result (λ s. s.1.table_id ≡ s.0) }
-        ensures first { IfOk result (λ s. s.1.me ≡ (opened, [])) }
-        ensures err { IfErr result (λ v. v ≡ value) }
-    {
-        let Ok(mut slots) = Vec::with_capacity(alloc, 1) else {
-            return Err(value);
-        };
-        slots.push_reserved(Some(value));
-        match Table::new(alloc, &[0, 0, 0], slots, &()) {
-            Ok((table, place)) => Ok((Turns { table }, place)),
-            Err(Refused { mut slots }) => Err(slots.pop().unwrap().unwrap()),
+// Waits until the ticket is served: parked, and woken where a turn is left.
+fn wait_turn<E, D: Recorded<E> + Drop, R: Wait>(
+    table: &SeatTable<E, D>,
+    rt: &R,
+    place: &mut Place<E, D>,
+    ticket: u64,
+)
+    requires own { place.old.table_id ≡ table.now }
+    requires waits { IsWaiting place.old.me ticket }
+    ensures own { place.new.table_id ≡ place.old.table_id }
+    ensures turn { HasTurn D.history D.seat place.old.me place.new.me }
+{
+    for _ in rt.forever() {
+        let serving = table.look(place);
+        if serving == ticket {
+            return;
         }
+        table.park(rt, serving);
     }
+    unreachable!()
+}
 
-    /// Another seat, with the next number. It has seen what the first one has.
-    pub fn split(&self, first: &mut Place<E, D>) -> Place<E, D>
-        requires own { first.old.table_id ≡ self.now }
-        requires first { 0 < first.old.me.0.next }
-        requires few { first.old.me.0.next < SEATS_MAX }
-        ensures own { (first.new.table_id ≡ first.old.table_id) × (result.table_id ≡ first.old.table_id) }
-        ensures first { first.new.me ≡ (split_left first.old.me.0, first.old.me.1) }
-        ensures new { result.me ≡ (split_right first.old.me.0, []) }
-    {
-        self.table.shared.split_seat::<Share>(first)
-    }
-
-    /// The length of the history.
-    pub fn seen(&self, place: &mut Place<E, D>) -> u64
-        requires { place.old.table_id ≡ self.now }
-        ensures length { length place.old.me.0.seen ≤ result }
-        ensures few { result ≤ HISTORY_MAX }
-        ensures place { (place.new.table_id ≡ place.old.table_id) × (place.new.me ≡ place.old.me) }
-    {
-        self.table.shared.load::<Read>(place, COUNT)
-    }
-
-    /// What either seat has seen begins what the first has seen now, which is the longer of both.
-    pub fn meet(&self, a: &mut Place<E, D>, b: &mut Place<E, D>)
-        requires own { (a.old.table_id ≡ self.now) × (b.old.table_id ≡ self.now) }
-        requires out { a.old.me.0.stage ≡ Out }
-        ensures own { (a.new.table_id ≡ a.old.table_id) × (b.new.table_id ≡ b.old.table_id) }
-        ensures begins { IsPrefix a.old.me.0.seen a.new.me.0.seen × IsPrefix b.old.me.0.seen a.new.me.0.seen }
-        ensures a { a.new.me ≡ (joined a.old.me.0 (note_of b.old.me.0.seen), a.old.me.1) }
-        ensures b { b.new.me ≡ b.old.me }
-    {
-        let note = self.table.shared.split_seat::<Note>(b);
-        self.table.shared.join_seat::<Note>(a, note);
-        let _ = self.table.shared.load::<Read>(a, COUNT);
-    }
-
-    /// Draws a ticket, waits until it is served, and takes the value.
-    pub fn take_turn<R: Wait>(&self, rt: &R, place: &mut Place<E, D>) -> D
-        requires own { place.old.table_id ≡ self.now }
-        requires may { MayDraw place.old.me }
-        ensures own { place.new.table_id ≡ place.old.table_id }
-        ensures turn { TakesTurn D.history D.seat place.old.me place.new.me result }
-    {
-        let ticket = self.table.shared.fetch_add::<Draw>(place, TICKET, 1);
-        self.wait_turn(rt, place, ticket);
-        self.take(place)
-    }
-
-    // Waits until the ticket is served: parked, and woken where a turn is left.
-    fn wait_turn<R: Wait>(&self, rt: &R, place: &mut Place<E, D>, ticket: u64)
-        requires own { place.old.table_id ≡ self.now }
-        requires waits { IsWaiting place.old.me ticket }
-        ensures own { place.new.table_id ≡ place.old.table_id }
-        ensures turn { HasTurn D.history D.seat place.old.me place.new.me }
-    {
-        for _ in rt.forever() {
-            let serving = self.table.shared.load::<Look>(place, SERVING);
-            if serving == ticket {
-                return;
-            }
-            self.table
-                .shared
-                .park(rt, SERVING, (serving & 0xffff_ffff) as u32);
-        }
-        unreachable!()
-    }
-
-    // Takes the value out of its slot.
-    fn take(&self, place: &mut Place<E, D>) -> D
-        requires own { place.old.table_id ≡ self.now }
-        requires holds { (d : D) × (place.old.me.1 ≡ (0, Some d) ∷ []) }
-        ensures own { place.new.table_id ≡ place.old.table_id }
-        ensures taken { (place.old.me.1 ≡ (0, Some result) ∷ []) × (place.new.me ≡ (place.old.me.0, (0, None) ∷ [])) }
-    {
-        self.table.shared.exchange(place, 0, None).unwrap()
-    }
-
-    /// Gives the value back as it was, and leaves the turn to the next ticket.
-    pub fn leave_turn(&self, place: &mut Place<E, D>, value: D)
-        requires own { place.old.table_id ≡ self.now }
-        requires turn { InTurn place.old.me }
-        requires same { D.history value ≡ place.old.me.0.whole }
-        ensures own { place.new.table_id ≡ place.old.table_id }
-        ensures left { place.new.me ≡ (left place.old.me.0, []) }
-    {
-        let _ = self.table.shared.exchange(place, 0, Some(value));
-        self.pass_on(place);
-    }
-
-    /// Gives the value back with one entry of the seat more, and leaves the turn to the next ticket.
-    pub fn end_turn(&self, place: &mut Place<E, D>, value: D)
-        requires own { place.old.table_id ≡ self.now }
-        requires turn { InTurn place.old.me }
-        requires entry { (e : E) × (D.history value ≡ place.old.me.0.whole ++ e ∷ []) × (D.seat e ≡ place.old.me.0.number) }
-        ensures own { place.new.table_id ≡ place.old.table_id }
-        ensures left { place.new.me ≡ (left (told D.seat place.old.me.0 (D.history value)), []) }
-    {
-        let _ = self.table.shared.exchange(place, 0, Some(value));
-        self.table.shared.fetch_add::<Append>(place, COUNT, 1);
-        self.pass_on(place);
-    }
-
-    // Serves the next ticket.
-    fn pass_on(&self, place: &mut Place<E, D>)
-        requires own { place.old.table_id ≡ self.now }
-        requires turn { turns place.old.me.0.stage ≡ 1 }
-        requires holds { (d : D) × (place.old.me.1 ≡ (0, Some d) ∷ []) × (D.history d ≡ place.old.me.0.whole) }
-        ensures own { place.new.table_id ≡ place.old.table_id }
-        ensures left { place.new.me ≡ (left place.old.me.0, []) }
-    {
-        self.table.shared.fetch_add::<Leave>(place, SERVING, 1);
-        self.table.shared.wake_all(SERVING);
-    }
+/// What either seat has seen begins what the first has seen now, which is the longer of both.
+pub fn meet<E, D: Recorded<E> + Drop>(
+    table: &SeatTable<E, D>,
+    a: &mut Place<E, D>,
+    b: &mut Place<E, D>,
+)
+    requires own { (a.old.table_id ≡ table.now) × (b.old.table_id ≡ table.now) }
+    requires out { a.old.me.0.stage ≡ Out }
+    ensures own { (a.new.table_id ≡ a.old.table_id) × (b.new.table_id ≡ b.old.table_id) }
+    ensures begins { IsPrefix a.old.me.0.seen a.new.me.0.seen × IsPrefix b.old.me.0.seen a.new.me.0.seen }
+    ensures a { a.new.me ≡ (joined a.old.me.0 (note_of b.old.me.0.seen), a.old.me.1) }
+    ensures b { b.new.me ≡ b.old.me }
+{
+    let note = table.note(b);
+    table.join(a, note);
+    let _ = table.seen(a);
 }

@@ -1,4 +1,4 @@
-use Rattle.seat_api.proofs.Histories.{all_are_run, runs}
+use Rattle.seat_desk.proofs.Histories.{all_are_run, runs}
 use Rattle.seat_api.proofs.laws.histories_are_runs.Goals as goal
 
 pub returns-clause-run : goal.returns-clause-run

@@ -1,15 +1,23 @@
-use Rattle.std.proofs.Common.{sym, ◌∙◌}
+use Rattle.std.proofs.Common.{ap, subst, sym, ◌∙◌}
+use Rattle.written_kernel.specs.Words.{StandsFor, step}
+use Rattle.seat_calls.specs.declared.call.SeatReply.TheVariants.{Answer}
 use Rattle.seat_replies.proofs.Answered.{answered_reply, answered_state}
 use Rattle.seat_replies.proofs.replies.reply.Goals as goal
 
 pub returns-in_ok-answer-clause-kept : goal.returns-in_ok-answer-clause-kept
-returns-in_ok-answer-clause-kept c =
+returns-in_ok-answer-clause-kept g c =
     λ m h.
-    answered_reply c.args.kernel.now m c.args.thread.0 c.args.act c.in_ok-answer.field-0.answer h c.requires.no_task
-    (sym (c.is_answered.ensures.stands m h) ∙ c.if-is_answered.true) (c.in_ok-answer.ensures.step m h).answer
+    answered_reply (g.K.Answers.keeps c.args.kernel.now) m c.args.thread.0 c.args.act c.in_ok-answer.field-0.answer h c.requires.no_task
+    (sym (c.is_answered.ensures.stands m h) ∙ c.if-is_answered.true)
+    ((c.in_ok-answer.ensures.step m h).answer ∙ ap (λ q. (step m c.args.thread.0 q).answer) c.into_request.ensures)
 
 pub returns-in_ok-answer-clause-state : goal.returns-in_ok-answer-clause-state
-returns-in_ok-answer-clause-state c =
+returns-in_ok-answer-clause-state g c =
     λ m h.
-    answered_state c.turn.new.kernel m c.args.thread.0 c.args.act (sym (c.is_answered.ensures.stands m h) ∙ c.if-is_answered.true)
-    (c.in_ok-answer.ensures.step m h).state
+    answered_state (g.K.Answers.keeps c.turn.new.self) m c.args.thread.0 c.args.act
+    (sym (c.is_answered.ensures.stands m h) ∙ c.if-is_answered.true)
+    (subst (λ q. StandsFor (g.K.Answers.keeps c.turn.new.self) (step m c.args.thread.0 q).state) c.into_request.ensures
+    (c.in_ok-answer.ensures.step m h).state)
+
+pub returns-in_ok-answer-clause-told : goal.returns-in_ok-answer-clause-told
+returns-in_ok-answer-clause-told g c = ap Answer c.fill.ensures

@@ -1,0 +1,3 @@
+//! A kernel as seats ask it.
+
+pub use seat_calls::kernel::Answers;

@@ -1,0 +1,8 @@
+use Rattle.std.proofs.Common.{arith, sym, ◌∙◌}
+use Rattle.atomic_table.specs.Seated.{TableId}
+use Rattle.seat_table.proofs.Rules.{splits}
+use Rattle.seat_table.proofs.table.SeatTable.split.Goals as goal
+
+pub split_seat-requires : goal.split_seat-requires
+split_seat-requires g c =
+    (c.requires.own ∙ sym {A = TableId} c.self.view_is, omega (arith, c.self.invariant.0), splits g.D.Recorded.history g.D.Recorded.seat _ _ c.requires.first c.requires.few)
