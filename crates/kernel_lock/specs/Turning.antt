@@ -6,6 +6,7 @@ use Rattle.written_kernel.specs.Words.{State, is_runnable}
 use Rattle.written_script.specs.Words.{is_over}
 use Rattle.sys_run.specs.Sys.{SysValue, WorksOn, history, is_working, state_of_run, threads_woken_by, with_turn}
 use Rattle.work_ops.specs.Words.{TaskValue}
+use Rattle.shared_run.specs.declared.asked.SharedRun.{Ghosts}
 use Rattle.kernel_lock.specs.Ends.{first_runnable_of, has_ended, is_member}
 use Rattle.kernel_lock.specs.declared.running.looks.Idle.{Idle}
 use Rattle.kernel_lock.specs.declared.turns.HandedIn.{HandedIn}
@@ -63,8 +64,8 @@ pub record IsLent (old new : UnderLock) (t : ℕ) (task : TaskValue) : Type 0 wh
   pub same : new ≡ old
 
 -- a driver waits only while its thread is not runnable and the run goes on, which the look shows
-pub record IsWait (old new : UnderLock) (t : ℕ) (look : Idle) : Type 0 where
-  pub run : look.run.value ≡ old.sys
+pub record IsWait {S : Type 0} {G : Ghosts S} (old new : UnderLock) (t : ℕ) (look : Idle S G) : Type 0 where
+  pub run : G.run look.run.value ≡ old.sys
   pub thread : look.thread.0 ≡ t
   pub not_runnable : is_runnable (state_of_run old.sys) t ≡ false
   pub goes_on : has_ended old.sys old.stopped ≡ false
@@ -74,7 +75,7 @@ pub record IsEnd (old new : UnderLock) : Type 0 where
   pub ended : has_ended old.sys old.stopped ≡ true
   pub same : new ≡ old
 
-abbrev pub IsTurn : UnderLock → UnderLock → ℕ → Turn → Type 0
+abbrev pub IsTurn : {S : Type 0} {G : Ghosts S} → UnderLock → UnderLock → ℕ → Turn S G → Type 0
 IsTurn old new t (turn.Taken whom) = IsTaken old new t whom
 IsTurn old new t (turn.Works task) = IsLent old new t task
 IsTurn old new t (turn.Waits look) = IsWait old new t look
@@ -101,10 +102,10 @@ pub record IsNextOf (h : UnderLock) (first : Option Tid) : Type 0 where
   pub goes_on : has_ended h.sys h.stopped ≡ false
   pub first_is : first_runnable_of (state_of_run h.sys) h.refused ≡ first
 
-abbrev pub IsNext : UnderLock → Next → Type 0
-IsNext h (next.Runnable t look) = IsNextOf h (Some t) × (look.run.value ≡ h.sys)
-IsNext h (next.Waits look) = IsNextOf h None × (look.run.value ≡ h.sys) × (look.marks.value.items ≡ h.refused)
-IsNext h (next.Ended look) = (has_ended h.sys h.stopped ≡ true) × (look.run.value ≡ h.sys) × (look.stopped ≡ h.stopped)
+abbrev pub IsNext : {S : Type 0} {G : Ghosts S} → UnderLock → Next S G → Type 0
+IsNext {S} {G} h (next.Runnable t look) = IsNextOf h (Some t) × (G.run look.run.value ≡ h.sys)
+IsNext {S} {G} h (next.Waits look) = IsNextOf h None × (G.run look.run.value ≡ h.sys) × (look.marks.value.items ≡ h.refused)
+IsNext {S} {G} h (next.Ended look) = (has_ended h.sys h.stopped ≡ true) × (G.run look.run.value ≡ h.sys) × (look.stopped ≡ h.stopped)
 
 -- the start of this thread is marked as refused
 abbrev pub with_refused : UnderLock → Tid → UnderLock

@@ -10,26 +10,27 @@ use crate::turns::{HandedIn, Next, Turn};
 use dk_base::error::NoMemory;
 use dk_base::number::Tid;
 use dk_base::outside::Gate;
+use shared_run::asked::SharedRun;
 use std::sync::Wait;
 use std::sync::ledger::Ledger;
 use work_ops::task::{Done, Task, run};
 
 /// What a driver that has left gives back: its share, and why it left.
-pub type Departed<L> = (TurnShare<L>, Left);
+pub type Departed<S, L> = (TurnShare<L>, Left<S>);
 
 /// What a driver does after a look under the lock, while the run goes on: it computes this task and hands it in, or looks again.
 #[derive(Drop)]
-struct Pass {
+struct Pass<S: SharedRun> {
     task: Option<Task>,
-    going: GoesOn,
+    going: GoesOn<S>,
 }
 
 /// Notifies those whom a look woke. How the run stood then decides what the driver does next.
-fn after<L: Ledger>(
-    shared: &Shared<L>,
-    turn: Result<Turn, NoMemory>,
-    standing: Result<GoesOn, Ended>,
-) -> Result<Pass, Ended> {
+fn after<S: SharedRun, L: Ledger>(
+    shared: &Shared<S, L>,
+    turn: Result<Turn<S>, NoMemory>,
+    standing: Result<GoesOn<S>, Ended<S>>,
+) -> Result<Pass<S>, Ended<S>> {
     let task = match turn {
         Ok(Turn::Works(task)) => Some(task),
         Ok(Turn::Taken(whom)) => {
@@ -50,12 +51,12 @@ fn after<L: Ledger>(
 }
 
 /// Waits until a thread is runnable, and takes its turn or is lent its task.
-fn take_turn<L: Ledger, R: Wait>(
+fn take_turn<S: SharedRun, L: Ledger, R: Wait>(
     rt: &R,
-    shared: &Shared<L>,
+    shared: &Shared<S, L>,
     t: Tid,
     mine: &mut TurnShare<L>,
-) -> Result<Pass, Ended> {
+) -> Result<Pass<S>, Ended<S>> {
     let mut held = shared.running.lock(rt);
     for _ in rt.forever() {
         match held.turn(t, mine) {
@@ -71,7 +72,7 @@ fn take_turn<L: Ledger, R: Wait>(
 }
 
 /// Stops the run, since memory is wanting.
-fn stop<L: Ledger, R: Wait>(rt: &R, shared: &Shared<L>) -> Ended
+fn stop<S: SharedRun, L: Ledger, R: Wait>(rt: &R, shared: &Shared<S, L>) -> Ended<S>
     ensures { result.stopped ≡ true }
 {
     let ended = shared.running.lock(rt).stop();
@@ -80,7 +81,11 @@ fn stop<L: Ledger, R: Wait>(rt: &R, shared: &Shared<L>) -> Ended
 }
 
 /// Computes a task without the lock. Where memory for it is wanting, the run is stopped.
-fn compute<L: Ledger, R: Wait>(rt: &R, shared: &Shared<L>, task: Task) -> Result<Done, Ended>
+fn compute<S: SharedRun, L: Ledger, R: Wait>(
+    rt: &R,
+    shared: &Shared<S, L>,
+    task: Task,
+) -> Result<Done, Ended<S>>
     ensures done { IfOk result (λ done. done ≡ task) }
     ensures stopped { IfErr result (λ look. look.stopped ≡ true) }
 {
@@ -91,13 +96,13 @@ fn compute<L: Ledger, R: Wait>(rt: &R, shared: &Shared<L>, task: Task) -> Result
 }
 
 /// Hands in what was computed for a thread.
-fn hand_in<L: Ledger, R: Wait>(
+fn hand_in<S: SharedRun, L: Ledger, R: Wait>(
     rt: &R,
-    shared: &Shared<L>,
+    shared: &Shared<S, L>,
     t: Tid,
     done: Done,
     mine: &mut TurnShare<L>,
-) -> Result<GoesOn, Ended> {
+) -> Result<GoesOn<S>, Ended<S>> {
     let mut held = shared.running.lock(rt);
     let handed = held.hand_in(t, done, mine);
     let next = held.standing();
@@ -112,14 +117,14 @@ fn hand_in<L: Ledger, R: Wait>(
 
 /// Goes on after a look for a thread: a task that was lent is computed without the lock, and handed in once the gate is passed
 /// again.
-fn go_on<G: Gate, L: Ledger, R: Wait>(
+fn go_on<G: Gate, S: SharedRun, L: Ledger, R: Wait>(
     rt: &R,
-    shared: &Shared<L>,
+    shared: &Shared<S, L>,
     t: Tid,
     gate: &G,
     mine: &mut TurnShare<L>,
-    pass: Pass,
-) -> Result<GoesOn, Ended> {
+    pass: Pass<S>,
+) -> Result<GoesOn<S>, Ended<S>> {
     let Pass { task, going } = pass;
     let Some(task) = task else {
         return Ok(going);
@@ -130,14 +135,14 @@ fn go_on<G: Gate, L: Ledger, R: Wait>(
 }
 
 /// Passes the gate, and takes a turn of a thread.
-fn take_next<G: Gate, L: Ledger, R: Wait>(
+fn take_next<G: Gate, S: SharedRun, L: Ledger, R: Wait>(
     rt: &R,
-    shared: &Shared<L>,
+    shared: &Shared<S, L>,
     t: Tid,
     gate: &G,
     mine: &mut TurnShare<L>,
-    going: GoesOn,
-) -> Result<GoesOn, Ended> {
+    going: GoesOn<S>,
+) -> Result<GoesOn<S>, Ended<S>> {
     going.pass(gate, t);
     let pass = take_turn(rt, shared, t, mine)?;
     go_on(rt, shared, t, gate, mine, pass)
@@ -147,13 +152,13 @@ fn take_next<G: Gate, L: Ledger, R: Wait>(
 /// has ended. A task it computes without the lock, and passes the gate again before it hands that in. It leaves only where a look
 /// found that the run had ended, or, before its first turn, that the thread's start is marked as refused; after want of memory
 /// the run is stopped. Its share's number is the turns that it took.
-pub fn drive<G: Gate, L: Ledger, R: Wait>(
+pub fn drive<G: Gate, S: SharedRun, L: Ledger, R: Wait>(
     rt: &R,
-    shared: &Shared<L>,
+    shared: &Shared<S, L>,
     t: Tid,
     gate: &G,
     share: TurnShare<L>,
-) -> Departed<L>
+) -> Departed<S, L>
     ensures { IsLeft t.0 result.1 }
 {
     let mut share = share;
@@ -171,7 +176,10 @@ pub fn drive<G: Gate, L: Ledger, R: Wait>(
 }
 
 /// Waits until a thread whose start was refused is runnable.
-fn next_refused<L: Ledger, R: Wait>(rt: &R, shared: &Shared<L>) -> Result<(Tid, GoesOn), Ended> {
+fn next_refused<S: SharedRun, L: Ledger, R: Wait>(
+    rt: &R,
+    shared: &Shared<S, L>,
+) -> Result<(Tid, GoesOn<S>), Ended<S>> {
     let mut held = shared.running.lock(rt);
     for _ in rt.forever() {
         match held.next_refused() {
@@ -184,12 +192,12 @@ fn next_refused<L: Ledger, R: Wait>(rt: &R, shared: &Shared<L>) -> Result<(Tid, 
 }
 
 /// A turn or the task of a thread whose start was refused, if it is still runnable.
-fn take_refused<L: Ledger, R: Wait>(
+fn take_refused<S: SharedRun, L: Ledger, R: Wait>(
     rt: &R,
-    shared: &Shared<L>,
+    shared: &Shared<S, L>,
     t: Tid,
     mine: &mut TurnShare<L>,
-) -> Result<Pass, Ended> {
+) -> Result<Pass<S>, Ended<S>> {
     let mut held = shared.running.lock(rt);
     let turn = held.turn(t, mine);
     let standing = held.standing();
@@ -198,12 +206,12 @@ fn take_refused<L: Ledger, R: Wait>(
 }
 
 /// Waits until a thread whose start was refused is runnable, passes the gate, and takes its turn.
-fn take_next_refused<G: Gate, L: Ledger, R: Wait>(
+fn take_next_refused<G: Gate, S: SharedRun, L: Ledger, R: Wait>(
     rt: &R,
-    shared: &Shared<L>,
+    shared: &Shared<S, L>,
     gate: &G,
     mine: &mut TurnShare<L>,
-) -> Result<GoesOn, Ended> {
+) -> Result<GoesOn<S>, Ended<S>> {
     let (t, going) = next_refused(rt, shared)?;
     going.pass(gate, t);
     let pass = take_refused(rt, shared, t, mine)?;
@@ -212,13 +220,13 @@ fn take_next_refused<G: Gate, L: Ledger, R: Wait>(
 
 /// Drives all threads whose start was refused, from the calling thread. It waits only while none of them is runnable, and leaves
 /// only where a look found that the run had ended.
-pub(crate) fn drive_refused<G: Gate, L: Ledger, R: Wait>(
+pub(crate) fn drive_refused<G: Gate, S: SharedRun, L: Ledger, R: Wait>(
     rt: &R,
-    shared: &Shared<L>,
+    shared: &Shared<S, L>,
     gate: &G,
     share: TurnShare<L>,
-) -> (TurnShare<L>, Ended)
-    ensures { has_ended result.1.run.value result.1.stopped ≡ true }
+) -> (TurnShare<L>, Ended<S>)
+    ensures { has_ended (S.run result.1.run.value) result.1.stopped ≡ true }
 {
     let mut share = share;
     for _ in rt.forever() {

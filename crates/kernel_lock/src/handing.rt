@@ -9,12 +9,13 @@ use crate::share::TurnShare;
 use crate::turns::HandedIn;
 use dk_base::error::NoMemory;
 use dk_base::number::Tid;
+use shared_run::asked::SharedRun;
 use std::sync::ledger::Ledger;
 use work_ops::task::Done;
 
-impl<L: Ledger> Running<L> {
+impl<S: SharedRun, L: Ledger> Running<S, L> {
     /// The end of a thread's task, where the thread is at the one that was done and the run goes on; else what was done is
-    /// dropped. A hold that books a turn is one `Sys::hand_in`, and names exactly the threads that it made runnable. Want of
+    /// dropped. A hold that books a turn is one `SharedRun::hand_in`, and names exactly the threads that it made runnable. Want of
     /// memory takes no turn, and stops the run.
     pub fn hand_in(
         &mut self,
@@ -23,12 +24,12 @@ impl<L: Ledger> Running<L> {
         mine: &mut TurnShare<L>,
     ) -> Result<HandedIn, NoMemory>
         ensures handed { IfOk result (IsHandedIn
-            (held self.old.sys self.old.stopped self.old.refused.items mine.old.turns)
-            (held self.new.sys self.new.stopped self.new.refused.items mine.new.turns)
+            (held (S.run self.old.sys) self.old.stopped self.old.refused.items mine.old.turns)
+            (held (S.run self.new.sys) self.new.stopped self.new.refused.items mine.new.turns)
             t.0 done) }
         ensures err { OnErr result (
-            held self.new.sys self.new.stopped self.new.refused.items mine.new.turns
-            ≡ stopped_by (held self.old.sys self.old.stopped self.old.refused.items mine.old.turns)) }
+            held (S.run self.new.sys) self.new.stopped self.new.refused.items mine.new.turns
+            ≡ stopped_by (held (S.run self.old.sys) self.old.stopped self.old.refused.items mine.old.turns)) }
     {
         if self.has_ended() {
             return Ok(HandedIn::Ended);
@@ -46,15 +47,15 @@ impl<L: Ledger> Running<L> {
         done: Done,
         mine: &mut TurnShare<L>,
     ) -> Result<HandedIn, NoMemory>
-        requires works { WorksOn self.old.sys t.0 done }
-        requires goes_on { has_ended self.old.sys self.old.stopped ≡ false }
+        requires works { WorksOn (S.run self.old.sys) t.0 done }
+        requires goes_on { has_ended (S.run self.old.sys) self.old.stopped ≡ false }
         ensures handed { IfOk result (IsHandedIn
-            (held self.old.sys self.old.stopped self.old.refused.items mine.old.turns)
-            (held self.new.sys self.new.stopped self.new.refused.items mine.new.turns)
+            (held (S.run self.old.sys) self.old.stopped self.old.refused.items mine.old.turns)
+            (held (S.run self.new.sys) self.new.stopped self.new.refused.items mine.new.turns)
             t.0 done) }
         ensures err { OnErr result (
-            held self.new.sys self.new.stopped self.new.refused.items mine.new.turns
-            ≡ stopped_by (held self.old.sys self.old.stopped self.old.refused.items mine.old.turns)) }
+            held (S.run self.new.sys) self.new.stopped self.new.refused.items mine.new.turns
+            ≡ stopped_by (held (S.run self.old.sys) self.old.stopped self.old.refused.items mine.old.turns)) }
     {
         let Running {
             sys,

@@ -10,6 +10,7 @@ use dk_base::error::NoMemory;
 use dk_base::list::{CountList, Room};
 use dk_base::outside::Gate;
 use script_lang::script::Script;
+use shared_run::asked::SharedRun;
 use std::alloc::Global;
 use std::marker::Brand;
 use std::sync::Wait;
@@ -29,11 +30,24 @@ pub struct Ran {
     pub tail: u64,
 }
 
+/// A run after the joins, and who took its turns. All of them together are its events.
+#[derive(Drop)]
+struct Joined<S> {
+    sys: S,
+    by: CountList,
+    tail: u64,
+}
+
 /// Drives all threads, and returns once all drivers have left.
-fn drive_in_scope<L: Ledger + Send + Sync, G: Gate + Sync, R: Threads + Wait + Sync>(
+fn drive_in_scope<
+    S: SharedRun + Send,
+    L: Ledger + Send + Sync,
+    G: Gate + Sync,
+    R: Threads + Wait + Sync,
+>(
     rt: &R,
     alloc: Global,
-    shared: &Shared<L>,
+    shared: &Shared<S, L>,
     gate: &G,
     threads: u32,
     most: u32,
@@ -59,11 +73,14 @@ fn drive_in_scope<L: Ledger + Send + Sync, G: Gate + Sync, R: Threads + Wait + S
 }
 
 /// The run after the joins. With all parts of the ledger, what was booked is what the journal has.
-fn ran_by<L: Ledger>(shared: Shared<L>, driven: Driven<L>) -> Result<Ran, NoMemory>
+fn after_joins<S: SharedRun, L: Ledger>(
+    shared: Shared<S, L>,
+    driven: Driven<L>,
+) -> Result<Joined<S>, NoMemory>
     requires parts { driven.all.parts ≡ L.parts }
     requires amount { driven.all.amount ≡ sum driven.by + driven.tail }
-    ensures sum { IfOk result (λ ran. length ran.sys.journal ≡ sum ran.by + ran.tail) }
-    ensures by { IfOk result (λ ran. ran.by ≡ driven.by) }
+    ensures sum { IfOk result (λ joined. length (S.run joined.sys).journal ≡ sum joined.by + joined.tail) }
+    ensures by { IfOk result (λ joined. joined.by ≡ driven.by) }
 {
     let Driven { mut all, by, tail } = driven;
     let Running {
@@ -76,30 +93,28 @@ fn ran_by<L: Ledger>(shared: Shared<L>, driven: Driven<L>) -> Result<Ran, NoMemo
         return Err(NoMemory);
     }
     book.audit(&mut all);
-    Ok(Ran { sys, by, tail })
+    Ok(Joined { sys, by, tail })
 }
 
 /// Drives all threads of a run that has no event yet, as far as the drivers take it.
-fn run_until_joined<L: Ledger + Send + Sync, G: Gate + Sync, R: Threads + Wait + Sync>(
-    rt: &R,
-    alloc: Global,
-    blank: Blank,
-    sys: Sys,
-    gate: &G,
-    most: u32,
-) -> Result<Ran, NoMemory>
+fn run_until_joined<
+    S: SharedRun + Send,
+    L: Ledger + Send + Sync,
+    G: Gate + Sync,
+    R: Threads + Wait + Sync,
+>(rt: &R, alloc: Global, blank: Blank, sys: S, gate: &G, most: u32) -> Result<Joined<S>, NoMemory>
     requires name { blank.name ≡ L.name }
     requires parts { blank.parts ≡ L.parts }
-    requires one_each { blank.parts ≡ length sys.script.threads + 1 }
-    requires empty { sys.journal ≡ [] }
-    ensures sum { IfOk result (λ ran. length ran.sys.journal ≡ sum ran.by + ran.tail) }
-    ensures by { IfOk result (λ ran. length ran.by ≡ length sys.script.threads) }
+    requires one_each { blank.parts ≡ length (S.run sys).script.threads + 1 }
+    requires empty { (S.run sys).journal ≡ [] }
+    ensures sum { IfOk result (λ joined. length (S.run joined.sys).journal ≡ sum joined.by + joined.tail) }
+    ensures by { IfOk result (λ joined. length joined.by ≡ length (S.run sys).script.threads) }
 {
-    let threads = sys.script().threads();
+    let threads = sys.threads();
     let (book, all) = blank.open::<L>();
     let shared = Shared::new(alloc, sys, book)?;
     let driven = drive_in_scope(rt, alloc, &shared, gate, threads, most, all)?;
-    ran_by(shared, driven)
+    after_joins(shared, driven)
 }
 
 /// The turns that are left, and how many they were. The journal has as many events more.
@@ -116,15 +131,15 @@ fn finish_counted(sys: &mut Sys) -> Result<u64, NoMemory>
 }
 
 /// The calling thread takes what is left.
-fn finish(ran: Ran) -> Result<Ran, NoMemory>
-    requires { length ran.sys.journal ≡ sum ran.by + ran.tail }
-    ensures script { IfOk result (λ done. done.sys.script ≡ ran.sys.script) }
+fn finish(joined: Joined<Sys>) -> Result<Ran, NoMemory>
+    requires { length joined.sys.journal ≡ sum joined.by + joined.tail }
+    ensures script { IfOk result (λ done. done.sys.script ≡ joined.sys.script) }
     ensures over { IfOk result (λ done. is_over done.sys.script (history done.sys) ≡ true) }
     ensures sum { IfOk result (λ done. length done.sys.journal ≡ sum done.by + done.tail) }
-    ensures by { IfOk result (λ done. done.by ≡ ran.by) }
+    ensures by { IfOk result (λ done. done.by ≡ joined.by) }
     ensures laws { IfOk result (λ done. LawsOf done.sys) }
 {
-    let Ran { mut sys, by, tail } = ran;
+    let Joined { mut sys, by, tail } = joined;
     let left = finish_counted(&mut sys)?;
     Ok(Ran {
         sys,
@@ -143,7 +158,7 @@ fn run_alone(alloc: Global, script: Script) -> Result<Ran, NoMemory>
 {
     let by = zeros(alloc, script.threads())?;
     let sys = Sys::new(alloc, script)?;
-    finish(Ran { sys, by, tail: 0 })
+    finish(Joined { sys, by, tail: 0 })
 }
 
 /// So many zeros, in room that was taken before. It takes no memory.
@@ -169,17 +184,17 @@ fn zeros(alloc: Global, n: u32) -> Result<CountList, NoMemory>
 
 /// The run after the joins, to its end. A lock's value is known by its type alone, so its script is compared with the one that
 /// was given; where they differ, the given one is run anew.
-fn run_to_end(alloc: Global, ran: Ran, script: Script) -> Result<Ran, NoMemory>
-    requires sum { length ran.sys.journal ≡ sum ran.by + ran.tail }
-    requires by { length ran.by ≡ length script.threads }
+fn run_to_end(alloc: Global, joined: Joined<Sys>, script: Script) -> Result<Ran, NoMemory>
+    requires sum { length joined.sys.journal ≡ sum joined.by + joined.tail }
+    requires by { length joined.by ≡ length script.threads }
     ensures script { IfOk result (λ done. done.sys.script ≡ script) }
     ensures over { IfOk result (λ done. is_over done.sys.script (history done.sys) ≡ true) }
     ensures sum { IfOk result (λ done. length done.sys.journal ≡ sum done.by + done.tail) }
     ensures by { IfOk result (λ done. length done.by ≡ length script.threads) }
     ensures laws { IfOk result (λ done. LawsOf done.sys) }
 {
-    if ran.sys.script().same(&script) {
-        finish(ran)
+    if joined.sys.script().same(&script) {
+        finish(joined)
     } else {
         run_alone(alloc, script)
     }
@@ -203,8 +218,15 @@ pub fn run_threads_on<G: Gate + Sync, R: Threads + Wait + Sync>(
     let copy = script.copy(alloc)?;
     let parts = script.threads() as u64 + 1;
     let sys = Sys::new(alloc, script)?;
-    let ran = run_until_joined::<Brand, G, R>(rt, alloc, Blank::new(parts), sys, gate, most)?;
-    run_to_end(alloc, ran, copy)
+    let joined = run_until_joined::<Sys, Brand, G, R>(
+        rt,
+        alloc,
+        Blank::new(parts),
+        sys,
+        gate,
+        most,
+    )?;
+    run_to_end(alloc, joined, copy)
 }
 
 /// Runs each thread of a script on a thread of its own, in whatever order the system makes. The run that is answered is of this

@@ -14,19 +14,19 @@ use crate::turns::{Next, ToNotify, Turn};
 use dk_base::error::NoMemory;
 use dk_base::list::TidList;
 use dk_base::number::Tid;
+use shared_run::asked::SharedRun;
 use std::sync::ledger::{Book, Ledger};
-use sys_run::sys::Sys;
 
 /// The run, and whether it was stopped. As many turns are booked as the journal has events.
 #[derive(Drop)]
-pub struct Running<L: Ledger> {
-    pub(crate) sys: Sys,
+pub struct Running<S: SharedRun, L: Ledger> {
+    pub(crate) sys: S,
     /// Memory was wanting, so every driver leaves.
     pub(crate) stopped: bool,
     /// The threads whose start was refused.
     pub(crate) refused: Vec<Tid>,
     pub(crate) book: Book<L>,
-    pub(crate) ghost booked: { book.total ≡ length sys.journal },
+    pub(crate) ghost booked: { book.total ≡ length (S.run sys).journal },
 }
 
 /// Whether a thread is one of these.
@@ -58,17 +58,17 @@ pub(crate) fn to_notify(refused: &[Tid], woken: TidList, over: bool) -> ToNotify
 }
 
 /// The first of these threads that is runnable.
-fn first_runnable<'a>(sys: &Sys, threads: &'a [Tid]) -> Option<&'a Tid>
-    ensures { option_copied result ≡ first_runnable_of (state_of_run sys.now) threads.now }
+fn first_runnable<'a, S: SharedRun>(sys: &S, threads: &'a [Tid]) -> Option<&'a Tid>
+    ensures { option_copied result ≡ first_runnable_of (state_of_run (S.run sys.now)) threads.now }
 {
     threads.iter().find(|t| sys.runnable(**t))
 }
 
-impl<L: Ledger> Running<L> {
+impl<S: SharedRun, L: Ledger> Running<S, L> {
     /// A run that is not stopped, and these threads, whose start was refused.
-    pub fn new(sys: Sys, refused: Vec<Tid>, book: Book<L>) -> Self
-        requires { book.total ≡ length sys.journal }
-        ensures { held result.sys result.stopped result.refused.items 0 ≡ held sys false refused.items 0 }
+    pub fn new(sys: S, refused: Vec<Tid>, book: Book<L>) -> Self
+        requires { book.total ≡ length (S.run sys).journal }
+        ensures { held (S.run result.sys) result.stopped result.refused.items 0 ≡ held (S.run sys) false refused.items 0 }
     {
         Running {
             sys,
@@ -81,14 +81,14 @@ impl<L: Ledger> Running<L> {
     /// A turn of a thread, where it may take one. A look that books a turn is one step, and names exactly the threads that the
     /// step made runnable. A thread that is at a task takes none here: its task is lent. Want of memory takes no turn, and stops
     /// the run.
-    pub fn turn(&mut self, t: Tid, mine: &mut TurnShare<L>) -> Result<Turn, NoMemory>
+    pub fn turn(&mut self, t: Tid, mine: &mut TurnShare<L>) -> Result<Turn<S>, NoMemory>
         ensures turn { IfOk result (IsTurn
-            (held self.old.sys self.old.stopped self.old.refused.items mine.old.turns)
-            (held self.new.sys self.new.stopped self.new.refused.items mine.new.turns)
+            (held (S.run self.old.sys) self.old.stopped self.old.refused.items mine.old.turns)
+            (held (S.run self.new.sys) self.new.stopped self.new.refused.items mine.new.turns)
             t.0) }
         ensures err { OnErr result (
-            held self.new.sys self.new.stopped self.new.refused.items mine.new.turns
-            ≡ stopped_by (held self.old.sys self.old.stopped self.old.refused.items mine.old.turns)) }
+            held (S.run self.new.sys) self.new.stopped self.new.refused.items mine.new.turns
+            ≡ stopped_by (held (S.run self.old.sys) self.old.stopped self.old.refused.items mine.old.turns)) }
     {
         if self.has_ended() {
             return Ok(Turn::Ended);
@@ -109,17 +109,17 @@ impl<L: Ledger> Running<L> {
     }
 
     // A turn of a runnable thread that is at no task.
-    fn take(&mut self, t: Tid, mine: &mut TurnShare<L>) -> Result<Turn, NoMemory>
-        requires can { is_runnable (state_of_run self.old.sys) t.0 ≡ true }
-        requires no_task { is_working (state_of_run self.old.sys) t.0 ≡ false }
-        requires goes_on { has_ended self.old.sys self.old.stopped ≡ false }
+    fn take(&mut self, t: Tid, mine: &mut TurnShare<L>) -> Result<Turn<S>, NoMemory>
+        requires can { is_runnable (state_of_run (S.run self.old.sys)) t.0 ≡ true }
+        requires no_task { is_working (state_of_run (S.run self.old.sys)) t.0 ≡ false }
+        requires goes_on { has_ended (S.run self.old.sys) self.old.stopped ≡ false }
         ensures turn { IfOk result (IsTurn
-            (held self.old.sys self.old.stopped self.old.refused.items mine.old.turns)
-            (held self.new.sys self.new.stopped self.new.refused.items mine.new.turns)
+            (held (S.run self.old.sys) self.old.stopped self.old.refused.items mine.old.turns)
+            (held (S.run self.new.sys) self.new.stopped self.new.refused.items mine.new.turns)
             t.0) }
         ensures err { OnErr result (
-            held self.new.sys self.new.stopped self.new.refused.items mine.new.turns
-            ≡ stopped_by (held self.old.sys self.old.stopped self.old.refused.items mine.old.turns)) }
+            held (S.run self.new.sys) self.new.stopped self.new.refused.items mine.new.turns
+            ≡ stopped_by (held (S.run self.old.sys) self.old.stopped self.old.refused.items mine.old.turns)) }
     {
         let Running {
             sys,
@@ -142,9 +142,9 @@ impl<L: Ledger> Running<L> {
     }
 
     /// Stops the run, so that every driver leaves.
-    pub fn stop(&mut self) -> Ended
-        ensures stopped { held self.new.sys self.new.stopped self.new.refused.items 0
-            ≡ stopped_by (held self.old.sys self.old.stopped self.old.refused.items 0) }
+    pub fn stop(&mut self) -> Ended<S>
+        ensures stopped { held (S.run self.new.sys) self.new.stopped self.new.refused.items 0
+            ≡ stopped_by (held (S.run self.old.sys) self.old.stopped self.old.refused.items 0) }
         ensures look { result.stopped ≡ true }
     {
         self.stopped = true;
@@ -152,8 +152,8 @@ impl<L: Ledger> Running<L> {
     }
 
     /// Which thread whose start was refused is runnable.
-    pub fn next_refused(&self) -> Next
-        ensures { IsNext (held self.now.sys self.now.stopped self.now.refused.items 0) result }
+    pub fn next_refused(&self) -> Next<S>
+        ensures { IsNext (held (S.run self.now.sys) self.now.stopped self.now.refused.items 0) result }
     {
         let going = match self.standing() {
             Ok(going) => going,
@@ -166,13 +166,13 @@ impl<L: Ledger> Running<L> {
     }
 
     /// Marks a thread whose start was refused. Want of memory stops the run.
-    pub fn refuse(&mut self, t: Tid) -> Result<Marked, Ended>
+    pub fn refuse(&mut self, t: Tid) -> Result<Marked, Ended<S>>
         ensures marked { OnOk result (
-            held self.new.sys self.new.stopped self.new.refused.items 0
-            ≡ with_refused (held self.old.sys self.old.stopped self.old.refused.items 0) t) }
+            held (S.run self.new.sys) self.new.stopped self.new.refused.items 0
+            ≡ with_refused (held (S.run self.old.sys) self.old.stopped self.old.refused.items 0) t) }
         ensures err { OnErr result (
-            held self.new.sys self.new.stopped self.new.refused.items 0
-            ≡ stopped_by (held self.old.sys self.old.stopped self.old.refused.items 0)) }
+            held (S.run self.new.sys) self.new.stopped self.new.refused.items 0
+            ≡ stopped_by (held (S.run self.old.sys) self.old.stopped self.old.refused.items 0)) }
         ensures thread { IfOk result (λ look. look.thread ≡ t) }
         ensures look { IfErr result (λ look. look.stopped ≡ true) }
     {
@@ -192,9 +192,9 @@ impl<L: Ledger> Running<L> {
     }
 
     /// Whether a driver of this thread is wanted: the run goes on, and its start was not refused. The error is why not.
-    pub fn needs_driver(&self, t: Tid) -> Result<GoesOn, Left>
-        ensures needs { OnOk result ((has_ended self.now.sys self.now.stopped || is_member self.now.refused.items t.0) ≡ false) }
-        ensures needs_none { OnErr result ((has_ended self.now.sys self.now.stopped || is_member self.now.refused.items t.0) ≡ true) }
+    pub fn needs_driver(&self, t: Tid) -> Result<GoesOn<S>, Left<S>>
+        ensures needs { OnOk result ((has_ended (S.run self.now.sys) self.now.stopped || is_member self.now.refused.items t.0) ≡ false) }
+        ensures needs_none { OnErr result ((has_ended (S.run self.now.sys) self.now.stopped || is_member self.now.refused.items t.0) ≡ true) }
         ensures going { IfOk result (λ look. look.run.value ≡ self.now.sys) }
         ensures left { IfErr result (λ left. IsLeft t.0 left) }
     {
@@ -209,9 +209,9 @@ impl<L: Ledger> Running<L> {
     }
 
     /// How the run stands: what who looks does next.
-    pub fn standing(&self) -> Result<GoesOn, Ended>
-        ensures goes_on { OnOk result (has_ended self.now.sys self.now.stopped ≡ false) }
-        ensures ended { OnErr result (has_ended self.now.sys self.now.stopped ≡ true) }
+    pub fn standing(&self) -> Result<GoesOn<S>, Ended<S>>
+        ensures goes_on { OnOk result (has_ended (S.run self.now.sys) self.now.stopped ≡ false) }
+        ensures ended { OnErr result (has_ended (S.run self.now.sys) self.now.stopped ≡ true) }
         ensures going { IfOk result (λ look. look.run.value ≡ self.now.sys) }
         ensures run { IfErr result (λ look. look.run.value ≡ self.now.sys) }
         ensures stopped { IfErr result (λ look. look.stopped ≡ self.now.stopped) }
@@ -224,7 +224,7 @@ impl<L: Ledger> Running<L> {
 
     // Whether no turn may be taken any more.
     pub(crate) fn has_ended(&self) -> bool
-        ensures { result ≡ has_ended self.now.sys self.now.stopped }
+        ensures { result ≡ has_ended (S.run self.now.sys) self.now.stopped }
     {
         self.stopped || self.sys.over()
     }

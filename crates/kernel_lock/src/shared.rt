@@ -7,17 +7,17 @@ use crate::turns::ToNotify;
 use dk_base::error::NoMemory;
 use dk_base::list::{Room, Sequence};
 use dk_base::number::Tid;
+use shared_run::asked::SharedRun;
 use std::alloc::Global;
 use std::sync::ledger::{Book, Ledger};
 use std::sync::{Condvar, Mutex};
-use sys_run::sys::Sys;
 
 /// What all drivers share: the run under its lock, and a condition variable for each driver.
 #[derive(Drop)]
-pub struct Shared<L: Ledger> {
+pub struct Shared<S: SharedRun, L: Ledger> {
     /// Where drivers have the memory for what they compute without the lock.
     pub(crate) alloc: Global,
-    pub(crate) running: Mutex<Running<L>>,
+    pub(crate) running: Mutex<Running<S, L>>,
     /// Where the calling thread waits.
     calling: Condvar,
     /// Where the drivers of the script's threads wait, in order.
@@ -43,14 +43,14 @@ fn condvars(alloc: Global, threads: u32) -> Result<Sequence<Condvar>, NoMemory>
     Ok(fill_with_condvars(room, threads))
 }
 
-impl<L: Ledger> Shared<L> {
+impl<S: SharedRun, L: Ledger> Shared<S, L> {
     /// A run under its lock, with a condition variable for each of its threads, and room for a mark for each thread whose start is
     /// refused. Want of memory drops the run.
-    pub fn new(alloc: Global, sys: Sys, book: Book<L>) -> Result<Self, NoMemory>
-        requires { book.total ≡ length sys.journal }
-        ensures { IfOk result (λ shared. length shared.condvars ≡ length sys.script.threads) }
+    pub fn new(alloc: Global, sys: S, book: Book<L>) -> Result<Self, NoMemory>
+        requires { book.total ≡ length (S.run sys).journal }
+        ensures { IfOk result (λ shared. length shared.condvars ≡ length (S.run sys).script.threads) }
     {
-        let threads = sys.script().threads();
+        let threads = sys.threads();
         let condvars = condvars(alloc, threads)?;
         let Ok(refused) = Vec::with_capacity(alloc, threads as usize) else {
             return Err(NoMemory);
@@ -64,7 +64,7 @@ impl<L: Ledger> Shared<L> {
     }
 
     /// What lay under the lock.
-    pub(crate) fn into_running(self) -> Running<L> {
+    pub(crate) fn into_running(self) -> Running<S, L> {
         let Shared {
             alloc: _,
             running,
@@ -84,7 +84,7 @@ impl<L: Ledger> Shared<L> {
     }
 
     /// Where the calling thread waits, once, since no thread that it drives was runnable.
-    pub(crate) fn calling(&self, idle: AllIdle) -> &Condvar {
+    pub(crate) fn calling(&self, idle: AllIdle<S>) -> &Condvar {
         drop(idle);
         &self.calling
     }

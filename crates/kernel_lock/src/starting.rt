@@ -10,6 +10,7 @@ use dk_base::error::NoMemory;
 use dk_base::list::{CountList, Room};
 use dk_base::number::Tid;
 use dk_base::outside::Gate;
+use shared_run::asked::SharedRun;
 use std::alloc::Global;
 use std::sync::Wait;
 use std::sync::ledger::{Ledger, Share};
@@ -17,12 +18,12 @@ use std::thread::{JoinHandle, Scope, Threads};
 
 /// A driver that was started, or one that left at once since its start was refused.
 #[derive(Drop)]
-enum Driver<L: Ledger> {
-    Started(JoinHandle<Departed<L>>),
-    Refused(Departed<L>),
+enum Driver<S: SharedRun, L: Ledger> {
+    Started(JoinHandle<Departed<S, L>>),
+    Refused(Departed<S, L>),
 }
 
-impl<L: Ledger> Driver<L> {
+impl<S: SharedRun, L: Ledger> Driver<S, L> {
     /// Waits until the driver has left, and gives its share.
     fn join<R: Threads>(self, rt: &R) -> TurnShare<L> {
         let (share, _) = match self {
@@ -62,7 +63,10 @@ fn split<L: Ledger>(
     Ok(shares)
 }
 
-fn room_for<L: Ledger>(alloc: Global, threads: usize) -> Result<Vec<Driver<L>>, NoMemory>
+fn room_for<S: SharedRun, L: Ledger>(
+    alloc: Global,
+    threads: usize,
+) -> Result<Vec<Driver<S, L>>, NoMemory>
     ensures room { IfOk result (λ room. threads ≤ vec_capacity room) }
     ensures empty { IfOk result (λ room. vec_len room ≡ 0) }
 {
@@ -73,7 +77,7 @@ fn room_for<L: Ledger>(alloc: Global, threads: usize) -> Result<Vec<Driver<L>>, 
 }
 
 /// Marks a thread that the calling thread drives. Where memory for the mark is wanting, the run is stopped.
-fn refuse<L: Ledger, R: Wait>(rt: &R, shared: &Shared<L>, t: Tid) -> Left
+fn refuse<S: SharedRun, L: Ledger, R: Wait>(rt: &R, shared: &Shared<S, L>, t: Tid) -> Left<S>
     ensures { IsLeft t.0 result }
 {
     let marked = shared.running.lock(rt).refuse(t);
@@ -88,14 +92,21 @@ fn refuse<L: Ledger, R: Wait>(rt: &R, shared: &Shared<L>, t: Tid) -> Left
 
 /// Starts the driver of a thread. A refused start hands its closure back: the thread is marked, and the closure gives its share
 /// back at once.
-fn start<'s, E, L: Ledger + Send + Sync + 's, G: Gate + Sync + 's, R: Threads + Wait + Sync + 's>(
+fn start<
+    's,
+    E,
+    S: SharedRun + Send + 's,
+    L: Ledger + Send + Sync + 's,
+    G: Gate + Sync + 's,
+    R: Threads + Wait + Sync + 's,
+>(
     rt: &'s R,
     scope: &Scope<'s, E>,
-    shared: &'s Shared<L>,
+    shared: &'s Shared<S, L>,
     gate: &'s G,
     t: Tid,
     share: TurnShare<L>,
-) -> Driver<L> {
+) -> Driver<S, L> {
     match scope.spawn(move || drive(rt, shared, t, gate, share)) {
         Ok(handle) => Driver::Started(handle),
         Err(refused) => {
@@ -109,18 +120,19 @@ fn start<'s, E, L: Ledger + Send + Sync + 's, G: Gate + Sync + 's, R: Threads + 
 fn start_all<
     's,
     E,
+    S: SharedRun + Send + 's,
     L: Ledger + Send + Sync + 's,
     G: Gate + Sync + 's,
     R: Threads + Wait + Sync + 's,
 >(
     rt: &'s R,
     scope: &Scope<'s, E>,
-    shared: &'s Shared<L>,
+    shared: &'s Shared<S, L>,
     gate: &'s G,
     shares: Vec<TurnShare<L>>,
-    room: Vec<Driver<L>>,
+    room: Vec<Driver<S, L>>,
     most: u32,
-) -> Vec<Driver<L>>
+) -> Vec<Driver<S, L>>
     requires few { vec_len shares < 2 ^ 32 }
     requires empty { vec_len room ≡ 0 }
     requires room { vec_len shares ≤ vec_capacity room }
@@ -142,9 +154,9 @@ fn start_all<
 }
 
 /// Waits until all drivers have left, and adds their shares up.
-fn join_all<L: Ledger, R: Threads>(
+fn join_all<S: SharedRun, L: Ledger, R: Threads>(
     rt: &R,
-    drivers: Vec<Driver<L>>,
+    drivers: Vec<Driver<S, L>>,
     all: &mut Share<L>,
     by: &mut Room<u64>,
 )
@@ -164,6 +176,7 @@ fn join_all<L: Ledger, R: Threads>(
 pub(crate) fn drive_all<
     's,
     E,
+    S: SharedRun + Send + 's,
     L: Ledger + Send + Sync + 's,
     G: Gate + Sync + 's,
     R: Threads + Wait + Sync + 's,
@@ -171,7 +184,7 @@ pub(crate) fn drive_all<
     rt: &'s R,
     alloc: Global,
     scope: &Scope<'s, E>,
-    shared: &'s Shared<L>,
+    shared: &'s Shared<S, L>,
     gate: &'s G,
     threads: u32,
     most: u32,

@@ -2,6 +2,7 @@
 use crate::running::looks::{AllIdle, Ended, GoesOn, Idle};
 use dk_base::list::TidList;
 use dk_base::number::Tid;
+use shared_run::asked::SharedRun;
 use work_ops::task::Task;
 
 /// Whom to notify after a turn.
@@ -17,13 +18,13 @@ pub struct ToNotify {
 
 /// What a driver finds under the lock.
 #[derive(Drop)]
-pub enum Turn {
+pub enum Turn<S: SharedRun> {
     /// It took one turn.
     Taken(ToNotify),
     /// Its thread is at this task, which it is to compute without the lock.
     Works(Task),
     /// Its thread is not runnable, and the run goes on.
-    Waits(Idle),
+    Waits(Idle<S>),
     /// The run is over, or was stopped.
     Ended,
 }
@@ -41,11 +42,11 @@ pub enum HandedIn {
 
 /// What the calling thread finds under the lock.
 #[derive(Drop)]
-pub enum Next {
+pub enum Next<S: SharedRun> {
     /// This thread, whose start was refused, is runnable, and the run goes on.
-    Runnable(Tid, GoesOn),
+    Runnable(Tid, GoesOn<S>),
     /// None of them is runnable, and the run goes on.
-    Waits(AllIdle),
+    Waits(AllIdle<S>),
     /// The run is over, or was stopped.
-    Ended(Ended),
+    Ended(Ended<S>),
 }

@@ -7,41 +7,41 @@ ghost use Rattle.kernel_lock.specs.Ends.{first_runnable_of, has_ended, is_member
 
 use dk_base::number::Tid;
 use dk_base::outside::Gate;
+use shared_run::asked::SharedRun;
 use std::snapshot::Snapshot;
-use sys_run::sys::Sys;
 
 /// A run that went on. It serves for one pass of the gate.
 #[derive(Drop)]
-pub struct GoesOn {
-    run: Snapshot<Sys>,
-    ghost goes_on: { has_ended run.value false ≡ false },
+pub struct GoesOn<S: SharedRun> {
+    run: Snapshot<S>,
+    ghost goes_on: { has_ended (S.run run.value) false ≡ false },
 }
 
 /// A run that had ended: it was over, or was stopped.
 #[derive(Drop)]
-pub struct Ended {
-    run: Snapshot<Sys>,
+pub struct Ended<S: SharedRun> {
+    run: Snapshot<S>,
     /// Whether it was stopped, since memory was wanting.
     pub stopped: bool,
-    ghost ended: { has_ended run.value stopped ≡ true },
+    ghost ended: { has_ended (S.run run.value) stopped ≡ true },
 }
 
 /// A run that went on, and a thread of it that was not runnable, so that its driver waits once.
 #[derive(Drop)]
-pub struct Idle {
-    run: Snapshot<Sys>,
+pub struct Idle<S: SharedRun> {
+    run: Snapshot<S>,
     thread: Tid,
-    ghost goes_on: { has_ended run.value false ≡ false },
-    ghost not_runnable: { is_runnable (state_of_run run.value) thread.0 ≡ false },
+    ghost goes_on: { has_ended (S.run run.value) false ≡ false },
+    ghost not_runnable: { is_runnable (state_of_run (S.run run.value)) thread.0 ≡ false },
 }
 
 /// A run that went on, and in which no thread whose start was refused was runnable, so that the calling thread waits once.
 #[derive(Drop)]
-pub struct AllIdle {
-    run: Snapshot<Sys>,
+pub struct AllIdle<S: SharedRun> {
+    run: Snapshot<S>,
     marks: Snapshot<Vec<Tid>>,
-    ghost goes_on: { has_ended run.value false ≡ false },
-    ghost none_runnable: { first_runnable_of (state_of_run run.value) marks.value.items ≡ None },
+    ghost goes_on: { has_ended (S.run run.value) false ≡ false },
+    ghost none_runnable: { first_runnable_of (state_of_run (S.run run.value)) marks.value.items ≡ None },
 }
 
 /// The mark of a thread whose start was refused.
@@ -55,17 +55,17 @@ pub struct Marked {
 
 /// Why a driver leaves.
 #[derive(Drop)]
-pub enum Left {
+pub enum Left<S: SharedRun> {
     /// The run had ended.
-    Ended(Ended),
+    Ended(Ended<S>),
     /// The start of its thread was refused.
     Refused(Marked),
 }
 
-impl GoesOn {
+impl<S: SharedRun> GoesOn<S> {
     /// A look at a run that goes on.
-    pub(super) fn seen(run: &Sys) -> Self
-        requires { has_ended run.now false ≡ false }
+    pub(super) fn seen(run: &S) -> Self
+        requires { has_ended (S.run run.now) false ≡ false }
         ensures { result.run.value ≡ run.now }
     {
         GoesOn {
@@ -80,10 +80,10 @@ impl GoesOn {
     }
 }
 
-impl Ended {
+impl<S: SharedRun> Ended<S> {
     /// A look at a run that has ended.
-    pub(super) fn seen(run: &Sys, stopped: bool) -> Self
-        requires { has_ended run.now stopped ≡ true }
+    pub(super) fn seen(run: &S, stopped: bool) -> Self
+        requires { has_ended (S.run run.now) stopped ≡ true }
         ensures run { result.run.value ≡ run.now }
         ensures stopped { result.stopped ≡ stopped }
     {
@@ -94,11 +94,11 @@ impl Ended {
     }
 }
 
-impl Idle {
+impl<S: SharedRun> Idle<S> {
     /// A look at a run that goes on, and at a thread that is not runnable.
-    pub(super) fn seen(run: &Sys, thread: Tid) -> Self
-        requires goes_on { has_ended run.now false ≡ false }
-        requires not_runnable { is_runnable (state_of_run run.now) thread.0 ≡ false }
+    pub(super) fn seen(run: &S, thread: Tid) -> Self
+        requires goes_on { has_ended (S.run run.now) false ≡ false }
+        requires not_runnable { is_runnable (state_of_run (S.run run.now)) thread.0 ≡ false }
         ensures run { result.run.value ≡ run.now }
         ensures thread { result.thread ≡ thread }
     {
@@ -117,11 +117,11 @@ impl Idle {
     }
 }
 
-impl AllIdle {
+impl<S: SharedRun> AllIdle<S> {
     /// A look at a run that goes on, and at the marks, no thread of which is runnable.
-    pub(super) fn seen(run: &Sys, marks: &Vec<Tid>) -> Self
-        requires goes_on { has_ended run.now false ≡ false }
-        requires none_runnable { first_runnable_of (state_of_run run.now) marks.now.items ≡ None }
+    pub(super) fn seen(run: &S, marks: &Vec<Tid>) -> Self
+        requires goes_on { has_ended (S.run run.now) false ≡ false }
+        requires none_runnable { first_runnable_of (state_of_run (S.run run.now)) marks.now.items ≡ None }
         ensures run { result.run.value ≡ run.now }
         ensures marks { result.marks.value ≡ marks.now }
     {
