@@ -1,6 +1,10 @@
 //! `doors`: runs a script of processes, threads and server procedures, and writes the trace of its run.
 #![tactic(auto)]
 
+mod acts;
+mod replay;
+
+use crate::replay::KernelPlayer;
 use dk_base::error::NoMemory;
 use dk_base::list::Bytes;
 use dk_base::outside::NoGate;
@@ -8,7 +12,7 @@ use dk_base::standard::{StdSink, StdSource};
 use doors_top::status::Status;
 use doors_top::top::doors_main;
 use explain::explaining::explanation;
-use explain_text::recording::{RecordedSink, RecordedSource};
+use explain::recording::{RecordedSink, RecordedSource};
 use std::alloc::Global;
 use std::io::ErrorKind;
 use std::process::ExitCode;
@@ -52,7 +56,13 @@ where
     let mut source = RecordedSource::new(alloc, StdSource::new(rt.reader()));
     let mut sink = RecordedSink::new(alloc, StdSink::new(io::writer(rt)));
     let status = doors_main(rt, alloc, words, &mut source, &mut sink, &NoGate);
-    let told = explanation(alloc, words, source.given(), sink.taken(), status.code());
+    let told = explanation::<KernelPlayer>(
+        alloc,
+        words,
+        source.given(),
+        sink.taken(),
+        status.code(),
+    );
     Ended {
         status,
         told: told.ok(),

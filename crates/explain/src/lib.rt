@@ -1,11 +1,32 @@
-//! What is said on the error stream of an answer of the program: what went wrong, and why.
+//! What is said on the error stream of an answer of the program: what went wrong, and why; warnings on a script; and inputs and outputs
+//! that keep what went through them.
 #![tactic(auto)]
 
-mod acts;
+pub mod acts;
+mod bad_line;
+mod case;
+mod command;
+mod declared;
 pub mod explaining;
-mod replay;
+mod form;
+mod messages;
+mod names;
+mod names_told;
+mod near;
+mod operand;
+mod operands_told;
+mod outline;
+mod place_told;
+pub mod player;
+pub mod recording;
+mod report;
+mod rule;
 mod run;
 mod run_told;
-mod script_lines;
+mod said;
+mod schedule;
+mod stage;
 mod standing;
 mod trace_told;
+mod warnings;
+mod words;

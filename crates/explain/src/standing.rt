@@ -1,158 +1,249 @@
-//! Why a thread cannot take a turn, in words: the end of a sentence that begins with its name.
+//! Why a thread cannot take a turn, as a sentence that begins with its name.
 
-use crate::acts::{Act, bound_of, first_of, last_of};
+use crate::acts::{Act, first_of, last_of, pool_of};
+use crate::messages::{Said, words_of};
+use crate::near::is_near;
+use crate::outline::Lines;
+use crate::report::Report;
 use crate::run::{Run, Thread};
-use crate::script_lines::{attached, path_of, process_name};
+use crate::words::found_at;
 use dk_base::event::What;
-use explain_text::names::Names;
-use explain_text::report::Report;
 
-/// Which line attaches a path that no event attached.
-fn push_attached(report: &mut Report, text: &[u8], path: &[u8]) {
-    let (line, near) = attached(text, path);
-    let words = if line > 0 {
-        "; line # attaches it, and no thread has come there"
-    } else if near.is_empty() {
-        "; no line attaches it"
-    } else {
-        "; no line attaches it: did you mean ~?"
-    };
-    report.tell(words, near, line);
+/// Whether a thread waits.
+#[derive(Clone, Copy)]
+pub(crate) enum Wait {
+    /// It has ended, or has not begun.
+    No,
+    /// For calls.
+    Idle,
+    Yes,
 }
 
-/// Why nothing is found at a path, of which this is the number.
-fn push_missing(report: &mut Report, run: &Run<'_>, path: &[u8], number: u64) {
-    if let Some(act) = first_of(run.acts, What::Detach, number, 0) {
-        report.tell("; the 'detach' of event # took it away", &[], act.event);
-    } else if let Some(act) = first_of(run.acts, What::Attach, number, 0) {
-        if let Some(errno) = act.error {
-            report.tell(
-                "; the 'attach' of event # answered @",
-                errno.name().as_bytes(),
-                act.event,
-            );
+/// What is said of a thread, and what stands in that.
+#[derive(Clone, Copy)]
+pub(crate) struct Standing<'a> {
+    pub wait: Wait,
+    name: &'a [u8],
+    said: Said,
+    more: Said,
+    /// The event since which it waits, or that ended it: a `#` in the words.
+    event: u64,
+    /// The number of the call or descriptor that it waits at: a `%`.
+    number: u64,
+    /// Another event, a line, or how many events of a port it wants: a `&`.
+    other: u64,
+    /// A path, a process or another thread: a `~`.
+    word: &'a [u8],
+    /// An error, or another path: a `@`.
+    by: &'a [u8],
+}
+
+impl<'a> Standing<'a> {
+    /// How a thread stands.
+    pub(crate) fn of(run: &Run<'_, 'a>, thread: &Thread<'a>) -> Self {
+        let mut standing = Standing {
+            wait: Wait::No,
+            name: thread.name,
+            said: Said::Nothing,
+            more: Said::Nothing,
+            event: 0,
+            number: 0,
+            other: 0,
+            word: &[],
+            by: &[],
+        };
+        match last_of(run.acts, thread.number) {
+            Some(last) => standing.set_after(run, thread, last),
+            None => standing.set_new(run, thread),
         }
-    } else {
-        push_attached(report, run.text, path);
+        standing
     }
-}
 
-/// The path that a thread waits for.
-fn push_path(report: &mut Report, run: &Run<'_>, wait: &Act) {
-    let mut names = Names::new(run.alloc);
-    let path = path_of(report, &mut names, run.text, wait.number);
-    if path.is_empty() {
-        report.tell(" waits for a path since event #", &[], wait.event);
-    } else {
-        report.tell(" waits for path ~ since event #", path, wait.event);
-        push_missing(report, run, path, wait.number);
+    /// A thread without an act.
+    fn set_new(&mut self, run: &Run<'_, 'a>, thread: &Thread<'a>) {
+        match run.first_kill(thread) {
+            Some(kill) => {
+                self.said = Said::Killed;
+                self.event = kill.event;
+            }
+            None if thread.is_spare => self.said = Said::NotStarted,
+            None => self.said = Said::NotForked,
+        }
     }
-}
 
-/// The port that a thread waits at.
-fn push_port(report: &mut Report, wait: &Act) {
-    report.tell(" waits since event #", &[], wait.event);
-    if wait.wanted > 1 {
-        report.tell(" for # events", &[], wait.wanted);
+    /// A thread after its last act.
+    fn set_after(&mut self, run: &Run<'_, 'a>, thread: &Thread<'a>, last: &Act) {
+        self.event = last.event;
+        if last.what == What::Exit {
+            self.said = Said::Exited;
+            return;
+        }
+        match first_of(run.acts, What::Kill, thread.process, last.event) {
+            Some(kill) if kill.event == last.event => self.said = Said::KilledItself,
+            Some(kill) => {
+                self.said = Said::Killed;
+                self.event = kill.event;
+            }
+            None => self.set_wait(run, thread, last),
+        }
     }
-    report.tell(" at the port that was descriptor # then", &[], wait.number);
-}
 
-/// The call that a thread waits in.
-fn push_call(report: &mut Report, run: &Run<'_>, wait: &Act) {
-    report.tell(" waits in call c#", &[], wait.number);
-    report.tell(" since event #", &[], wait.event);
-    match first_of(run.acts, What::Accept, wait.number, 0) {
-        None => report.say("; no thread has accepted it"),
-        Some(act) => report.tell(
-            "; ~ accepted it at event #",
-            run.name(act.thread),
-            act.event,
-        ),
+    /// A thread that waits since an act.
+    fn set_wait(&mut self, run: &Run<'_, 'a>, thread: &Thread<'a>, wait: &Act) {
+        self.wait = Wait::Yes;
+        self.said = Said::Waits;
+        self.number = wait.number;
+        match wait.what {
+            What::Call => self.set_call(run),
+            What::Return | What::Accept => self.set_pool(run, thread),
+            What::Await => self.set_path(run),
+            What::Get | What::GetN => self.set_port(wait.wanted),
+            _ => {}
+        }
     }
-}
 
-/// The calls that a thread waits for.
-fn push_pool(report: &mut Report, run: &Run<'_>, thread: &Thread<'_>, wait: &Act) {
-    report.tell(" waits since event # for calls", &[], wait.event);
-    match bound_of(run.acts, thread.number) {
-        Some(true) => report.say(" of the private door that it is bound to"),
-        Some(false) => report.tell(
-            " of the doors of process ~ that are not private",
-            process_name(run.text, thread.process),
-            0,
-        ),
-        None => {}
+    /// It waits in a call.
+    fn set_call(&mut self, run: &Run<'_, 'a>) {
+        self.said = Said::InCall;
+        self.more = Said::NotAccepted;
+        if let Some(act) = first_of(run.acts, What::Accept, self.number, 0) {
+            self.more = Said::Accepted;
+            self.word = run.name(act.thread);
+            self.other = act.event;
+        }
     }
-}
 
-/// What a thread waits for since an act.
-pub(crate) fn push_wait(report: &mut Report, run: &Run<'_>, thread: &Thread<'_>, wait: &Act) {
-    match wait.what {
-        What::Call => push_call(report, run, wait),
-        What::Return | What::Accept => push_pool(report, run, thread, wait),
-        What::Await => push_path(report, run, wait),
-        What::Get | What::GetN => push_port(report, wait),
-        _ => report.tell(" waits since event #", &[], wait.event),
+    /// It waits for calls.
+    fn set_pool(&mut self, run: &Run<'_, 'a>, thread: &Thread<'a>) {
+        self.wait = Wait::Idle;
+        self.word = thread.process_name;
+        self.more = pool_of(run.acts, thread.number);
     }
-}
 
-/// What ended a thread, of which the other act is the last.
-fn end_told(end: &Act, last: &Act) -> &'static str {
-    if end.what == What::Exit {
-        " exited at event #"
-    } else if end.event == last.event {
-        " was ended by its own 'kill' of event #"
-    } else {
-        " was ended by the 'kill' of event #"
+    /// It waits at a port.
+    fn set_port(&mut self, wanted: u64) {
+        self.other = wanted;
+        self.more = if wanted > 1 {
+            Said::AtPortForMany
+        } else {
+            Said::AtPort
+        };
     }
-}
 
-/// Why a thread cannot take a turn that has no act.
-fn push_new(report: &mut Report, run: &Run<'_>, thread: &Thread<'_>) {
-    match run.first_kill(thread) {
-        Some(kill) => report.tell(" was ended by the 'kill' of event #", &[], kill.event),
-        None if thread.is_spare => report.say(" is a spare that has not started"),
-        None => report.say(" is a thread of a child that no 'fork' has begun"),
+    /// It waits for a path.
+    fn set_path(&mut self, run: &Run<'_, 'a>) {
+        match run.declared.paths.at(self.number as usize) {
+            Some(path) if !path.is_empty() => {
+                self.said = Said::ForPath;
+                self.word = path;
+                self.set_missing(run);
+            }
+            _ => self.said = Said::ForSomePath,
+        }
     }
-}
 
-/// Why a thread cannot take a turn.
-fn push_standing(report: &mut Report, run: &Run<'_>, thread: &Thread<'_>) {
-    let Some(last) = last_of(run.acts, thread.number) else {
-        push_new(report, run, thread);
-        return;
-    };
-    match run.end(thread, last) {
-        Some(end) => report.tell(end_told(end, last), &[], end.event),
-        None => push_wait(report, run, thread, last),
+    /// Why nothing is found at the path.
+    fn set_missing(&mut self, run: &Run<'_, 'a>) {
+        if let Some(act) = first_of(run.acts, What::Detach, self.number, 0) {
+            self.more = Said::Detached;
+            self.other = act.event;
+        } else if let Some(act) = first_of(run.acts, What::Attach, self.number, 0) {
+            self.set_attach(act);
+        } else {
+            self.set_attached(run.text);
+        }
+    }
+
+    /// An attach of the path, which is told where it failed.
+    fn set_attach(&mut self, act: &Act) {
+        if !act.error.is_empty() {
+            self.more = Said::AttachFailed;
+            self.by = act.error.as_bytes();
+            self.other = act.event;
+        }
+    }
+
+    /// Which line attaches the path, that no event attached.
+    fn set_attached(&mut self, text: &'a [u8]) {
+        self.more = Said::NotAttached;
+        let mut lines = Lines::new(text);
+        for _ in text {
+            let Some((number, line)) = lines.next() else {
+                break;
+            };
+            if found_at(line, 0).word == b"attach".as_slice() {
+                self.add_attach(number, found_at(line, 2).word);
+            }
+        }
+    }
+
+    /// A line that attaches a path.
+    fn add_attach(&mut self, number: u64, path: &'a [u8]) {
+        if path == self.word {
+            self.more = Said::AttachToCome;
+            self.other = number;
+        } else if self.other == 0 && is_near(path, self.word) {
+            self.more = Said::NearlyAttached;
+            self.by = path;
+        }
+    }
+
+    /// Whether it waits in a call that no thread has accepted.
+    pub(crate) fn is_queued(&self) -> bool {
+        matches!(self.more, Said::NotAccepted)
+    }
+
+    /// A byte of a template, or what stands for it.
+    fn part(&self, report: &mut Report, byte: u8) {
+        match byte {
+            b'~' => report.quoted(self.word),
+            b'@' => report.word(self.by),
+            b'#' => report.number(self.event),
+            b'%' => report.number(self.number),
+            b'&' => report.number(self.other),
+            _ => report.put(&[byte]),
+        }
+    }
+
+    fn tell_words(&self, report: &mut Report, said: Said) {
+        for byte in words_of(said) {
+            self.part(report, *byte);
+        }
+    }
+
+    /// The sentence, with no line feed.
+    pub(crate) fn tell(&self, report: &mut Report) {
+        report.quoted(self.name);
+        self.tell_words(report, self.said);
+        self.tell_words(report, self.more);
+    }
+
+    /// The same as a line that begins so.
+    pub(crate) fn tell_line(&self, report: &mut Report, start: &str) {
+        report.say(start);
+        self.tell(report);
+        report.end();
     }
 }
 
 /// Why a thread of this name cannot take a turn.
-pub(crate) fn push_named(report: &mut Report, run: &Run<'_>, name: &[u8]) {
-    for thread in run.threads {
+pub(crate) fn tell_named(report: &mut Report, run: &Run<'_, '_>, name: &[u8]) {
+    for thread in run.threads() {
         if thread.name == name {
-            report.quoted(name);
-            push_standing(report, run, thread);
-            return;
+            return Standing::of(run, thread).tell(report);
         }
     }
-    report.tell("there is no thread ~", name, 0);
+    report.tell(words_of(Said::NoThread), name, 0);
 }
 
-/// What is said before the threads that can take a turn that another cannot take.
-pub(crate) const ABLE: &str = "    threads that can take this turn:";
-
-/// A line of such words, and of the threads that can take a turn, each after a space.
-pub(crate) fn tell_runnable(report: &mut Report, threads: &[Thread<'_>], words: &str, number: u64) {
-    report.tell(words, &[], number);
-    let mut is_none = true;
-    for thread in threads {
+/// The threads that can take a turn, each after a space, and the end of the line.
+pub(crate) fn tell_runnable(report: &mut Report, run: &Run<'_, '_>) {
+    let mut end = " none\n";
+    for thread in run.threads() {
         if thread.is_runnable {
-            report.tell(" @", thread.name, 0);
-            is_none = false;
+            report.tell(b" @", thread.name, 0);
+            end = "\n";
         }
     }
-    report.say(if is_none { " none\n" } else { "\n" });
+    report.say(end);
 }

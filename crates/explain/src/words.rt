@@ -36,37 +36,29 @@ impl<'a> Words<'a> {
     }
 }
 
-/// The word of a place, from 0.
-pub fn word_at(line: &[u8], place: usize) -> Option<Found<'_>> {
+/// The word of a place, from 0; where there is none no bytes, at the line's end.
+pub fn found_at(line: &[u8], place: usize) -> Found<'_> {
     let mut words = Words::new(line);
     for _ in 0..place {
         let _before = words.next();
     }
-    words.next()
-}
-
-/// The first word of a line that is no comment.
-pub fn first_word(line: &[u8]) -> Option<Found<'_>> {
-    match word_at(line, 0) {
-        Some(
-            Found {
-                word: [b'#', ..],
-                ..
+    match words.next() {
+        Some(found) => found,
+        None => Found {
+            word: &[],
+            span: Span {
+                start: line.len(),
+                end: line.len().saturating_add(1),
             },
-        ) => None,
-        found => found,
+        },
     }
 }
 
-/// The word of a place, from 0, or nothing.
-pub(crate) fn word_or_none(line: &[u8], place: usize) -> &[u8] {
-    match word_at(line, place) {
-        Some(found) => found.word,
-        None => &[],
+/// The first word of a line, no bytes where the line is a comment.
+pub fn first_word(line: &[u8]) -> Found<'_> {
+    let found = found_at(line, 0);
+    match found.word {
+        [b'#', ..] => Found { word: &[], ..found },
+        _ => found,
     }
-}
-
-/// The second word, or nothing.
-pub(crate) fn second_word(line: &[u8]) -> &[u8] {
-    word_or_none(line, 1)
 }

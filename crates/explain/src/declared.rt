@@ -4,7 +4,7 @@ use crate::form::Role;
 use crate::near::is_near;
 use crate::outline::{Place, Walk};
 use crate::report::Report;
-use crate::words::second_word;
+use crate::words::found_at;
 
 /// What has a name.
 #[derive(Clone, Copy, PartialEq, Eq)]
@@ -34,13 +34,26 @@ pub(crate) fn kind_of(role: Role) -> Kind {
     }
 }
 
+/// The names of which a line is to name one.
+pub(crate) fn scope_of(at: &Walk<'_>) -> Scope {
+    let kind = match at.role {
+        Role::Child | Role::Kill => Kind::Process,
+        Role::Create => Kind::Procedure,
+        _ => Kind::Thread,
+    };
+    Scope {
+        kind,
+        process: at.process,
+    }
+}
+
 impl Scope {
     /// Whether a line declares a name of it.
     fn has(&self, walk: &Walk<'_>) -> bool {
-        match walk.outline.place {
+        match walk.place {
             Place::Body => false,
             _ if kind_of(walk.role) != self.kind => false,
-            _ => self.kind != Kind::Procedure || walk.outline.process == self.process,
+            _ => self.kind != Kind::Procedure || walk.process == self.process,
         }
     }
 }
@@ -52,28 +65,18 @@ pub(crate) fn declaration_of(text: &[u8], scope: Scope, name: &[u8], may_differ:
         if !walk.next() {
             break;
         }
-        if scope.has(&walk) && is_meant(second_word(walk.line), name, may_differ) {
-            return walk.number;
+        if scope.has(&walk) {
+            let declared = found_at(walk.line, 1).word;
+            if declared == name || (may_differ && is_near(declared, name)) {
+                return walk.number;
+            }
         }
     }
     0
 }
 
-/// Whether a name is this one, or may differ and is nearly this one.
-fn is_meant(declared: &[u8], name: &[u8], may_differ: bool) -> bool {
-    declared == name || (may_differ && is_near(declared, name))
-}
-
-/// The name that a line declares, after so many others.
-fn push_name(report: &mut Report, count: u64, line: &[u8]) {
-    match count {
-        16 => report.say(" .."),
-        _ => report.tell(" @", second_word(line), 0),
-    }
-}
-
-/// Adds the declared names, at most 16 of them, each after a space, and says how many.
-fn push_names(report: &mut Report, text: &[u8], scope: Scope) -> u64 {
+/// The declared names, at most 16 of them, each after a space.
+pub(crate) fn tell_names(report: &mut Report, text: &[u8], scope: Scope) {
     let mut walk = Walk::new(text);
     let mut count: u64 = 0;
     for _ in 0..text.len() {
@@ -81,18 +84,14 @@ fn push_names(report: &mut Report, text: &[u8], scope: Scope) -> u64 {
             break;
         }
         if scope.has(&walk) {
-            push_name(report, count, walk.line);
+            match count {
+                16 => report.say(" .."),
+                _ => report.tell(b" @", found_at(walk.line, 1).word, 0),
+            }
             count = count.saturating_add(1);
         }
     }
-    count
-}
-
-/// A line of the declared names.
-pub(crate) fn tell_names(report: &mut Report, text: &[u8], scope: Scope) {
-    report.say("    declared:");
-    match push_names(report, text, scope) {
-        0 => report.say(" none\n"),
-        _ => report.end(),
+    if count == 0 {
+        report.say(" none");
     }
 }

@@ -23,12 +23,7 @@ impl<'a> Names<'a> {
     }
 
     pub fn has(&self, name: &[u8]) -> bool {
-        for other in self.names.as_slice() {
-            if *other == name {
-                return true;
-            }
-        }
-        false
+        self.names.as_slice().contains(&name)
     }
 
     /// The first that is nearly this one.
