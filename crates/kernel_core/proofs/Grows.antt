@@ -27,7 +27,8 @@ use Rattle.written_kernel.proofs.Threads.{threads-begin_process}
 use Rattle.written_kernel.proofs.Leaving.{calls-leave, threads-leave, threads_of-leave_process}
 use Rattle.written_kernel.proofs.Settling.{settle-all, with_notice_of}
 use Rattle.channel_invariant.specs.Channels.{IsAmong, Made, WaitsAtMade, made_in}
-use Rattle.kernel_core.specs.Within.{IsSmallStage, IsSmallCall, AreSmall, IsSmall}
+use Rattle.answering_kernel.specs.Small.{IsSmall}
+use Rattle.kernel_core.specs.Within.{IsSmallStage, IsSmallCall, AreSmall}
 
 pub record Grows (k : ℕ) (m n : State) : Type 0 where
   pub threads : length n.process_table.threads ≡ length m.process_table.threads

@@ -16,7 +16,8 @@ use Rattle.dk_base.specs.declared.answer.Answer.TheVariants as answer
 use Rattle.dk_base.specs.declared.request.Request.TheVariants as request
 use Rattle.kernel_core.specs.Entries.{made_first, may_make_first}
 use Rattle.kernel_core.specs.Kept.{HasNothingPast}
-use Rattle.kernel_core.specs.Within.{IsWithin, IsSmall}
+use Rattle.answering_kernel.specs.Small.{IsSmall}
+use Rattle.kernel_core.specs.Within.{IsWithin}
 use Rattle.kernel_records.proofs.Lists.{same_length}
 use Rattle.written_kernel.proofs.Settling.{give-all}
 use Rattle.written_kernel.proofs.Steps.{act-keeps, process_identity}

@@ -1,10 +1,8 @@
 -- What a kernel's numbers, bytes and objects in transit stay within.
-use Rattle.std.specs.Prelude.{ℕ, ◌≡◌, ◌≤◌, ◌*◌, length, List, [], ◌∷◌, Option, Some}
-use Rattle.written_kernel.specs.Types.{Answer, Call, CallStage, Request}
-use Rattle.dk_base.specs.declared.answer.Answer.TheVariants as answer
-use Rattle.dk_base.specs.declared.request.Request.TheVariants as request
+use Rattle.std.specs.Prelude.{◌≤◌, ◌*◌, length, List, [], ◌∷◌}
+use Rattle.written_kernel.specs.Types.{Call, CallStage}
 use Rattle.kernel_records.specs.declared.record.CallStage.TheVariants as stage
-use Rattle.dk_base.specs.declared.limits.TheConstants.{DATA_MAX, EVENTS_MAX, PASS_MAX, ANSWER_ITEMS_MAX}
+use Rattle.dk_base.specs.declared.limits.TheConstants.{DATA_MAX, EVENTS_MAX, PASS_MAX}
 use Rattle.unref_notice.specs.declared.counts.TheConstants.{STEP_MAX}
 use Rattle.written_kernel.specs.Words.{State}
 
@@ -30,18 +28,3 @@ pub record IsWithin (m : State) : Type 0 where
   pub calls_made : m.call_tree.made ≤ m.events
   pub notices_made : m.notice_list.made ≤ STEP_MAX * m.events
   pub small : AreSmall m.call_tree.calls
-
--- how many descriptors a turn sends an event to
-abbrev pub count_sent : Option Request → ℕ
-count_sent (Some (request.SendN fds events user)) = length fds
-count_sent q = 0
-
--- what a turn is told: at most 4,096 bytes, 16 descriptors and 64 events, and of each descriptor that an event is sent to whether there
--- was an error
-abbrev pub IsSmall : Option Request → Answer → Type 0
-IsSmall q (answer.Data bytes) = length bytes ≤ DATA_MAX
-IsSmall q (answer.Entered call entry cookie bytes fds) = (length bytes ≤ DATA_MAX) × (length fds ≤ PASS_MAX)
-IsSmall q (answer.Results bytes fds grown) = (length bytes ≤ DATA_MAX) × (length fds ≤ PASS_MAX)
-IsSmall q (answer.Events events) = length events ≤ ANSWER_ITEMS_MAX
-IsSmall q (answer.Errors errors) = length errors ≡ count_sent q
-IsSmall q _ = Unit {0}

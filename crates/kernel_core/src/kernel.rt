@@ -9,7 +9,8 @@ ghost use Rattle.written_kernel.specs.Words.{IsFit, IsOpening, IsStep, MayGoOn, 
 ghost use Rattle.kernel_core.specs.Entries.{is_cache_line};
 ghost use Rattle.kernel_core.specs.Kept.{IsKept};
 ghost use Rattle.kernel_store.specs.Words.{IsAtRest, stored_state};
-ghost use Rattle.kernel_core.specs.Within.{IsWithin, IsSmall};
+ghost use Rattle.answering_kernel.specs.Small.{IsSmall};
+ghost use Rattle.kernel_core.specs.Within.{IsWithin};
 ghost use Rattle.kernel_core.specs.Acted.{IsBetweenEvents};
 
 use crate::event::Parts;

@@ -3,6 +3,7 @@
 #![tactic(auto)]
 
 mod acts;
+mod asked;
 mod associations;
 mod binding;
 mod descriptors;

@@ -1,3 +1,3 @@
 //! A kernel as seats ask it.
 
-pub use seat_calls::kernel::Answers;
+pub use answering_kernel::asked::Answers;

@@ -1,6 +1,6 @@
 //! What is made of a call before the kernel is asked.
 ghost use Rattle.std.specs.Prelude.{◌≡◌, ◌≤◌, IfOk};
-ghost use Rattle.kernel_core.specs.Within.{count_sent};
+ghost use Rattle.answering_kernel.specs.Small.{count_sent};
 ghost use Rattle.seat_calls.specs.Replies.{request_of};
 
 use crate::call::SeatAct;

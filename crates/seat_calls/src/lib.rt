@@ -1,9 +1,8 @@
-//! Calls of seats, what a kernel replies to them, and a kernel as seats ask it.
+//! Calls of seats, and what a kernel replies to them.
 #![tactic(auto)]
 
 pub mod asked;
 pub mod call;
 pub mod entry;
-pub mod kernel;
 pub mod refusal;
 pub mod room;

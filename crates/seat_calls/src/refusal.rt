@@ -4,7 +4,7 @@ ghost use Rattle.written_kernel.specs.Words.{StandsFor, State};
 ghost use Rattle.seat_calls.specs.Replies.{refusal};
 
 use crate::call::{SeatAct, SeatReply};
-use crate::kernel::Answers;
+use answering_kernel::asked::Answers;
 use dk_base::error::NoMemory;
 use dk_base::number::Tid;
 use kernel_records::record::ThreadState;

@@ -4,12 +4,12 @@ ghost use Rattle.seat_table.specs.declared.limits.TheConstants.{HISTORY_MAX};
 ghost use Rattle.seat_desk.specs.History.{IsFitAct, IsLegal, by};
 
 use crate::opening::Opening;
+use answering_kernel::asked::Answers;
 use dk_base::error::NoMemory;
 use dk_base::list::Room;
 use dk_base::number::Tid;
 use seat_calls::call::{SeatAct, SeatReply};
 use seat_calls::entry::SeatEntry;
-use seat_calls::kernel::Answers;
 use seat_replies::replies::{Replied, reply};
 use seat_table::Recorded;
 use std::alloc::{AllocFailed, Global};

@@ -4,11 +4,11 @@ ghost use Rattle.dk_base.specs.declared.limits.TheConstants.{EVENTS_MAX};
 ghost use Rattle.written_kernel.specs.Words.{StandsFor, State, output_at, state_of};
 ghost use Rattle.seat_calls.specs.Replies.{IsFitAct, is_answered, reply_of, state_by};
 
+use answering_kernel::asked::Answers;
 use dk_base::error::NoMemory;
 use dk_base::number::Tid;
 use seat_calls::asked::Asked;
 use seat_calls::call::{SeatAct, SeatReply};
-use seat_calls::kernel::Answers;
 use seat_calls::refusal::refusals;
 use std::alloc::Global;
 

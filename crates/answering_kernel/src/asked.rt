@@ -4,14 +4,13 @@ use dk_base::error::NoMemory;
 use dk_base::event::Stepped;
 use dk_base::number::Tid;
 use dk_base::request::Request;
-use kernel_core::kernel::Kernel;
 use kernel_records::record::ThreadState;
 
 /// What seats ask of a kernel. It is a trait so that nothing above names the kernel, whose type tells of all its parts and is dear to prove with.
 pub trait Answers: Drop {
     ghost use Rattle.std.specs.Prelude.{◌≡◌, IfOk, OnErr};
     ghost use Rattle.written_kernel.specs.Words.{IsOpening, IsStep, MayTurn, StandsFor, State, is_runnable, is_running, state_of, step};
-    ghost use Rattle.kernel_core.specs.Within.{IsSmall};
+    ghost use Rattle.answering_kernel.specs.Small.{IsSmall};
 
     /// The state that it keeps.
     ghost keeps: { Self → State };
@@ -38,31 +37,4 @@ pub trait Answers: Drop {
         ensures step { IfOk result (λ s. (m : State) → StandsFor (keeps self.old) m → IsStep (step m thread.0 request) (keeps self.new) s) }
         ensures small { IfOk result (λ s. IsSmall request s.answer) }
         ensures err { OnErr result (keeps self.new ≡ keeps self.old) };
-}
-
-impl Answers for Kernel {
-    ghost keeps = { λ m. m };
-
-    fn events(&self) -> u64 {
-        self.events()
-    }
-
-    fn runnable(&self, thread: Tid) -> bool {
-        self.runnable(thread)
-    }
-
-    fn is_running(&self, thread: Tid) -> bool {
-        self.is_running(thread)
-    }
-
-    fn state(&self, thread: Tid) -> &ThreadState {
-        self.state(thread)
-    }
-
-    fn turn(&mut self, thread: Tid, request: Option<Request>) -> Result<Stepped, NoMemory> {
-        match request {
-            Some(request) => self.enter(thread, request),
-            None => self.go_on(thread),
-        }
-    }
 }

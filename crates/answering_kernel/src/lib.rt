@@ -1,0 +1,4 @@
+//! A kernel as seats ask it.
+#![tactic(auto)]
+
+pub mod asked;
