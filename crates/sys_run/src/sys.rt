@@ -1,7 +1,7 @@
 ghost use Rattle.std.specs.Prelude.{◌≡◌, ◌↔◌, IsTrue, ℕ, ◌+◌, ◌<◌, ◌≤◌, [], length, slice_get, Some, IfOk, option_map, OnOk, OnErr, take, true, false, All};
 ghost use Rattle.dk_base.specs.declared.limits.TheConstants.{BUDGET_MAX};
 ghost use Rattle.written_kernel.specs.Words.{is_runnable, output_at, state_of, waiting_threads};
-ghost use Rattle.script_requests.specs.Words.{IsDeclaredEvent, IsDeclaredThread};
+ghost use Rattle.script_requests.specs.Words.{IsDeclaredEvent, IsDeclaredThread, request_after};
 ghost use Rattle.written_script.specs.Words.{ending_of, is_over, scheduled_turns, tid_number};
 ghost use Rattle.sys_run.specs.Sys.{with_journal, history, state_of_run, with_turn, with_turns, turns_left, next_turn, scheduled_turn, threads_woken_by, LawsOf, IsJournal, WorksOn, is_working};
 
@@ -14,6 +14,7 @@ use dk_base::error::NoMemory;
 use dk_base::event::Event;
 use dk_base::list::{Bytes, TidList};
 use dk_base::number::Tid;
+use dk_base::request::Request;
 use kernel_core::kernel::Kernel;
 use kernel_records::record::ThreadState;
 use script_lang::script::Script;
@@ -147,6 +148,14 @@ impl Sys {
             ThreadState::Working { op, input } => done.is_of(*op, input),
             _ => false,
         }
+    }
+
+    /// The request that a thread makes at its turn, or made where its turn ends a wait.
+    pub fn request(&self, t: Tid) -> Result<Request, NoMemory>
+        requires { is_runnable (state_of_run self.now) t.0 ≡ true }
+        ensures { IfOk result (λ request. request ≡ request_after self.now.script t.0 self.now.journal) }
+    {
+        self.machines[t.0 as usize - 1].next(self.alloc, &self.script)
     }
 
     // One turn of a thread, with the bytes of its task where it ends one.
