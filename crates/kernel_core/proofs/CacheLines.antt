@@ -1,5 +1,5 @@
 -- The event of a line for a name service cache: it is counted, nothing else changes, and nobody is woken.
-use Rattle.std.proofs.Common.{◌≡◌, ℕ, zero, suc, ◌++◌, ◌&&◌, Bool, true, false, not, if◌then◌else◌, List, [], ◌∷◌, Option, Some, Result, Ok, Err, IfOk, length, refl, sym, subst, ap, ap₂, ◌∙◌}
+use Rattle.std.proofs.Common.{◌≡◌, ℕ, zero, suc, ◌++◌, ◌&&◌, Bool, true, false, not, if◌then◌else◌, List, [], ◌∷◌, Some, Result, Ok, Err, IfOk, length, refl, sym, ap, ap₂, ◌∙◌}
 use Rattle.dk_base.specs.declared.answer.Answer.TheVariants as answer
 use Rattle.dk_base.specs.declared.number.Tid.{Tid}
 use Rattle.dk_base.specs.declared.request.Request.TheVariants as request

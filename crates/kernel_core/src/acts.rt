@@ -1,5 +1,5 @@
 //! The act of a turn: an entry, unless it is refused, or the end of a wait.
-ghost use Rattle.std.specs.Prelude.{◌≡◌, ◌≤◌, ◌&&◌, if◌then◌else◌, not, Some, None, false, length, true, IfOk, OnErr, OnOk};
+ghost use Rattle.std.specs.Prelude.{◌≡◌, ◌&&◌, if◌then◌else◌, not, Some, None, false, length, true, IfOk, OnErr, OnOk};
 ghost use Rattle.std.specs.Option.{option_map};
 ghost use Rattle.kernel_records.specs.Words.{has_common_door, is_private};
 ghost use Rattle.kernel_invariant.specs.Coherent.{is_unfit};
@@ -12,7 +12,7 @@ ghost use Rattle.kernel_core.specs.Handed.{count_passed, ending_of, events_at_en
 ghost use Rattle.kernel_core.specs.Kept.{HasNothingPast};
 ghost use Rattle.kernel_core.specs.Numbers.{HasNumbersLeft};
 ghost use Rattle.pool_agreement.specs.Words.{own_pool};
-ghost use Rattle.kernel_store.specs.Words.{AreHeld, CanAct, CanLeave, FillsNoPool, FillsOnePool, HasWholeStep, IsRoomFor, KeepsForNotices, KeepsPools, ParksAgain, stored_state};
+ghost use Rattle.kernel_store.specs.Words.{AreHeld, CanAct, CanLeave, FillsNoPool, FillsOnePool, HasWholeStep, IsRoomFor, KeepsForNotices, ParksAgain, stored_state};
 
 use crate::descriptors::{self, door_named};
 use crate::doors::{self, accept, collect};

@@ -1,8 +1,8 @@
 //! One event: the memory that it can need is taken first, then the act, and what follows it.
-ghost use Rattle.std.specs.Prelude.{◌≡◌, ℕ, ◌+◌, ◌<◌, ◌≤◌, [], List, Option, false, length, true, Some, None, IfOk, IsOk, OnOk, OnErr};
+ghost use Rattle.std.specs.Prelude.{◌≡◌, ℕ, ◌+◌, ◌<◌, ◌≤◌, [], Option, false, true, Some, None, IfOk, IsOk, OnOk, OnErr};
 ghost use Rattle.std.specs.Option.{option_map};
 ghost use Rattle.dk_base.specs.declared.answer.Answer.TheVariants.{Data};
-ghost use Rattle.dk_base.specs.declared.limits.TheConstants.{EVENTS_MAX, THREADS_MAX};
+ghost use Rattle.dk_base.specs.declared.limits.TheConstants.{EVENTS_MAX};
 ghost use Rattle.written_kernel.specs.Words.{IsFit, IsStep, State, act, has_lost_door, is_runnable, is_running, step, with_event_counted};
 ghost use Rattle.kernel_invariant.specs.Events.{is_leaving};
 ghost use Rattle.kernel_store.specs.Words.{ArePlaced, CanSettle, HasRoom, HasWholeStep, IsAtRest, stored_state};

@@ -2,7 +2,7 @@
 ghost use Rattle.std.specs.Prelude.{◌≡◌, ◌<◌, None, IfOk, OnErr, OnOk, length};
 ghost use Rattle.dk_base.specs.declared.limits.TheConstants.{EVENTS_MAX};
 ghost use Rattle.kernel_records.specs.Words.{first_refusal};
-ghost use Rattle.written_kernel.specs.Words.{Subject, object_at, pipe, pipe_at, pipe_named, pipe_tests, read, reading_tests, write, writing_tests};
+ghost use Rattle.written_kernel.specs.Words.{Subject, object_at, pipe, pipe_at, pipe_tests, read, reading_tests, write, writing_tests};
 ghost use Rattle.kernel_core.specs.Entries.{entry_about};
 ghost use Rattle.kernel_store.specs.Words.{HasRoomForReferences, KeepsPools, stored_state};
 

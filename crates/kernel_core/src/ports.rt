@@ -1,10 +1,10 @@
 //! The acts of event ports, and the end of the wait at one. The memory that an act needs is taken before its first change.
-ghost use Rattle.std.specs.Prelude.{◌≡◌, ◌∷◌, ◌++◌, ◌<◌, ◌≤◌, ℕ, List, None, Some, false, true, IfErr, IfOk, OnErr, OnOk, length};
+ghost use Rattle.std.specs.Prelude.{◌≡◌, ◌++◌, ◌<◌, List, None, Some, false, true, IfErr, IfOk, OnErr, OnOk, length};
 ghost use Rattle.dk_base.specs.declared.answer.Answer.TheVariants as answer;
-ghost use Rattle.dk_base.specs.declared.limits.TheConstants.{EVENTS_MAX, USER_EVENTS_MAX};
+ghost use Rattle.dk_base.specs.declared.limits.TheConstants.{EVENTS_MAX};
 ghost use Rattle.dk_base.specs.declared.object.Obj.TheVariants as obj;
 ghost use Rattle.kernel_records.specs.Words.{Test, events_found, first_refusal, is_ready_for};
-ghost use Rattle.written_kernel.specs.Words.{Subject, after_sending, alert, alerting_tests, create_port, create_port_tests, end_getting, found_answer, get, get_many, getting_many_tests, getting_tests, is_running, object_at, port, port_at, port_named, port_tests, retrieve, send, send_many, sending_error, sending_tests, state_of, tell_queued, wait_for, with_ports};
+ghost use Rattle.written_kernel.specs.Words.{Subject, after_sending, alert, alerting_tests, create_port, create_port_tests, end_getting, get, get_many, getting_many_tests, getting_tests, is_running, object_at, port, port_at, port_tests, retrieve, send, send_many, sending_error, sending_tests, state_of, tell_queued, wait_for, with_ports};
 ghost use Rattle.kernel_core.specs.Entries.{entry_about};
 ghost use Rattle.kernel_core.specs.Finding.{CanEndGetting, CanSendEach, HasRoomToFind};
 ghost use Rattle.kernel_core.specs.Handed.{events_at_end};

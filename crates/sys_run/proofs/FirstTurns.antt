@@ -1,6 +1,6 @@
 -- The run that `play` makes, turn by turn.
-use Rattle.std.proofs.Common.{◌≡◌, ◌⊎◌, ℕ, ◌+◌, ◌-◌, ◌<◌, ◌≤◌, List, [], ◌∷◌, ◌++◌, length, drop, length-append, length-drop, append-nil, Option, Some, None, true, false, inl, inr, arith, refl, ap, sym, ◌∙◌, subst, zero, suc}
-use Rattle.std.specs.Prelude.{if◌then◌else◌, slice_get, slice_set}
+use Rattle.std.proofs.Common.{◌≡◌, ◌⊎◌, ℕ, ◌+◌, ◌-◌, ◌<◌, List, [], ◌∷◌, ◌++◌, length, drop, length-append, length-drop, append-nil, Option, Some, None, true, false, inl, inr, arith, refl, ap, sym, ◌∙◌, subst, zero, suc}
+use Rattle.std.specs.Prelude.{slice_get, slice_set}
 use Rattle.ncd_app.specs.Words.{NcdValue}
 use Rattle.written_kernel.specs.Types.{Event, Tid}
 use Rattle.written_kernel.specs.Words.{State, is_runnable, output_at, state_of}

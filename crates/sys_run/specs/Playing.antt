@@ -1,5 +1,5 @@
 -- The run that `play` makes, by the number of its turns.
-use Rattle.std.specs.Prelude.{ℕ, ◌≡◌, [], ◌∷◌, List, Option, None, Some, if◌then◌else◌, zero, suc}
+use Rattle.std.specs.Prelude.{ℕ, [], ◌∷◌, List, Option, None, Some, if◌then◌else◌, zero, suc}
 use Rattle.written_kernel.specs.Types.{Event, Tid}
 use Rattle.written_kernel.specs.Words.{is_runnable}
 use Rattle.script_lang.specs.Words.{ScriptValue}

@@ -1,4 +1,4 @@
-use Rattle.std.proofs.Common.{◌≡◌, ap, sym, subst, ◌∙◌}
+use Rattle.std.proofs.Common.{sym, subst, ◌∙◌}
 use Rattle.dk_base.specs.declared.request.Request.TheVariants as request
 use Rattle.kernel_store.specs.Words.{MayBegin, stored_state}
 use Rattle.kernel_core.specs.Forking.{MayFork}

@@ -1,4 +1,4 @@
-use Rattle.std.proofs.Common.{◌≡◌, ℕ, ap, ◌∙◌, length, true, false, sym}
+use Rattle.std.proofs.Common.{ℕ, ap, ◌∙◌}
 use Rattle.std.specs.Prelude.{nat_lt}
 use Rattle.sys_run.specs.Sys.{state_of_run, with_journal}
 use Rattle.sys_run.proofs.Journals.{events-counted}
