@@ -1,7 +1,6 @@
 //! `doors`: runs a script of processes, threads and server procedures, and writes the trace of its run.
 #![tactic(auto)]
 
-mod acts;
 mod replay;
 
 use crate::replay::KernelPlayer;
@@ -56,13 +55,7 @@ where
     let mut source = RecordedSource::new(alloc, StdSource::new(rt.reader()));
     let mut sink = RecordedSink::new(alloc, StdSink::new(io::writer(rt)));
     let status = doors_main(rt, alloc, words, &mut source, &mut sink, &NoGate);
-    let told = explanation::<KernelPlayer>(
-        alloc,
-        words,
-        source.given(),
-        sink.taken(),
-        status.code(),
-    );
+    let told = explanation::<KernelPlayer>(alloc, words, source.kept(), sink.kept(), status.code());
     Ended {
         status,
         told: told.ok(),

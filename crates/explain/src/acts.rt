@@ -1,8 +1,9 @@
 //! What the threads of a run did, as plain values.
 
-use crate::messages::Said;
-use dk_base::event::What;
+use dk_base::answer::Answer;
+use dk_base::event::{Event, What};
 use dk_base::number::Tid;
+use dk_base::request::Request;
 
 /// What a thread did at an event. That it took a call is an accept.
 #[derive(Clone, Copy)]
@@ -18,66 +19,60 @@ pub struct Act {
     pub error: &'static str,
 }
 
-impl Act {
-    fn has_failed(&self) -> bool {
-        !self.error.is_empty()
-    }
+/// What a request is about: the number of a process, path or port, and how many events of a port it wants.
+#[derive(Clone, Copy)]
+pub struct Subject {
+    number: u64,
+    wanted: u64,
+}
 
-    /// Whether it is of a kind about a number, at an event of this number or later. One that failed is none, but for an attach.
-    fn is(&self, what: What, number: u64, since: u64) -> bool {
-        self.what == what
-            && self.number == number
-            && self.event >= since
-            && (what == What::Attach || !self.has_failed())
-    }
-
-    /// Which calls its thread waits for after it, where it waits for calls: those of the doors of its process, or of a private door.
-    fn pool_after(&self, before: Said) -> Said {
-        match self.what {
-            What::Bind if !self.has_failed() => Said::OfPrivateDoor,
-            What::Unbind if !self.has_failed() => Said::OfProcess,
-            What::Woken if self.has_failed() => Said::OfProcess,
-            // its descriptors were wrong, or its door was valid no more
-            What::Return if self.has_failed() && before as u8 == Said::OfPrivateDoor as u8 => {
-                Said::ForCalls
+impl Subject {
+    /// Takes the request, so that no holder of a whole run drops one.
+    pub fn of(request: Request) -> Self {
+        let mut subject = Subject {
+            number: 0,
+            wanted: 0,
+        };
+        match &request {
+            Request::Kill { process } => subject.number = u64::from(process.0),
+            Request::Attach { path, .. } | Request::Detach { path } | Request::Await { path } => {
+                subject.number = u64::from(path.0);
             }
-            _ => before,
+            Request::Get { port, .. } => {
+                subject.number = u64::from(port.0);
+                subject.wanted = 1;
+            }
+            Request::GetN { port, nget, .. } => {
+                subject.number = u64::from(port.0);
+                subject.wanted = u64::from(*nget);
+            }
+            _ => {}
         }
+        subject
     }
 }
 
-/// Which calls a thread waits for after all its acts, as far as they tell.
-pub(crate) fn pool_of(acts: &[Act], thread: Tid) -> Said {
-    let mut pool = Said::OfProcess;
-    for act in acts {
-        if act.thread == thread {
-            pool = act.pool_after(pool);
+impl Act {
+    /// What a thread did at an event, by the subject of its turn's request, or of the request whose wait its turn ended.
+    pub fn of(event: &Event, subject: Subject) -> Self {
+        let mut act = Act {
+            event: u64::from(event.number),
+            thread: event.thread,
+            what: event.what,
+            number: subject.number,
+            wanted: subject.wanted,
+            error: "",
+        };
+        match &event.answer {
+            Answer::WaitCall { call } => act.number = u64::from(*call),
+            Answer::Entered { call, .. } => {
+                act.what = What::Accept;
+                act.number = u64::from(*call);
+            }
+            Answer::Child { process } => act.number = u64::from(process.0),
+            Answer::Failure(errno) => act.error = errno.name(),
+            _ => {}
         }
+        act
     }
-    pool
-}
-
-/// The last act of a thread.
-pub(crate) fn last_of(acts: &[Act], thread: Tid) -> Option<&Act> {
-    let mut last = None;
-    for act in acts {
-        if act.thread == thread {
-            last = Some(act);
-        }
-    }
-    last
-}
-
-/// The first act of a kind about a number, at an event of this number or later.
-pub(crate) fn first_of(acts: &[Act], what: What, number: u64, since: u64) -> Option<&Act> {
-    let mut first: Option<&Act> = None;
-    for act in acts {
-        if act.is(what, number, since) {
-            first = match first {
-                Some(other) if other.event < act.event => first,
-                _ => Some(act),
-            };
-        }
-    }
-    first
 }

@@ -5,9 +5,10 @@ use crate::names_told::{find_twice, find_unknown};
 use crate::operands_told::find_wrong;
 use crate::outline::{Walk, line_at, walk_to};
 use crate::place_told::find_place;
-use crate::report::{Report, Span};
+use crate::report::Report;
 use crate::rule::is_listed;
-use crate::words::{Found, first_word, found_at};
+use crate::said::Topic;
+use crate::words::{Found, found_at};
 use script_line::reason::Reason;
 use script_text::number::{Number, bounded_number};
 use script_text::string::is_printable;
@@ -67,25 +68,29 @@ pub fn bad_line_of(output: &[u8]) -> Option<BadLine> {
 /// Of a line with a byte that no script has.
 fn find_byte(case: &mut Case<'_, '_>) {
     let line = case.at.line;
-    for (start, byte) in line.iter().enumerate() {
+    let mut rest = line;
+    for _ in line {
+        let Some((byte, later)) = rest.split_first() else {
+            return;
+        };
         if !is_printable(*byte) {
-            let rest = line.split_at(start.min(line.len())).1;
-            let end = start.saturating_add(1);
-            case.said.word = match *byte {
-                b'\t' => b"tab",
-                b'\r' if end >= line.len() => b"last-return",
-                b'\r' => b"inner-return",
-                0xEF => b"order-mark",
-                0xE2 => b"quote",
-                0x7F.. => b"high",
-                _ => b"control",
-            };
+            case.other = line.len().saturating_sub(later.len()) as u64;
             case.found = Found {
-                word: rest.split_at(rest.len().min(1)).0,
-                span: Span { start, end },
+                word: rest.split_at(1).0,
+                rest: later,
+            };
+            case.said = Key {
+                topic: Topic::Byte,
+                word: match *byte {
+                    0xEF => b"order-mark",
+                    0xE2 => b"quote",
+                    0x7F.. => b"high",
+                    _ => rest,
+                },
             };
             return;
         }
+        rest = later;
     }
 }
 
@@ -111,60 +116,35 @@ fn word_of_header(at: &Walk<'_>) -> &'static [u8] {
 
 /// What is wrong in the script's text.
 pub fn tell_bad_line(alloc: Global, report: &mut Report, text: &[u8], bad: BadLine) {
-    let at = walk_to(text, bad.number);
-    let of = bad.reason.word().as_bytes();
-    let mut case = Case::new(&at, of);
+    let at = walk_to(text, bad.number, 0);
+    let case = &mut Case::new(&at, Topic::Nothing);
+    case.other = walk_to(text, bad.number, at.depth).opener;
     match bad.reason {
+        Reason::Byte => find_byte(case),
         Reason::Header => {
-            case.said = Key {
-                of,
-                word: word_of_header(&at),
-            }
+            case.said.topic = Topic::Header;
+            case.said.word = word_of_header(&at);
         }
         Reason::Open => {
-            case.said = Key {
-                of,
-                word: at.place_word(),
-            }
+            case.said.topic = Topic::Open;
+            case.said.word = at.place_word();
         }
-        Reason::Byte => find_byte(&mut case),
-        Reason::Form => find_wrong(alloc, report, &mut case, false),
-        Reason::Range => find_wrong(alloc, report, &mut case, true),
-        Reason::Twice => find_twice(&mut case),
-        Reason::Unknown => find_unknown(&mut case),
-        Reason::Many | Reason::Body => {}
-        _ => find_place(&mut case),
+        Reason::Many => case.said.topic = Topic::Many,
+        Reason::Body => case.said.topic = Topic::Body,
+        Reason::Form => find_wrong(alloc, report, case, false),
+        Reason::Range => find_wrong(alloc, report, case, true),
+        Reason::Twice => find_twice(case),
+        Reason::Unknown => find_unknown(case),
+        _ => find_place(case),
     }
     case.tell(report);
-}
-
-/// Too many bytes.
-pub fn tell_size(report: &mut Report) {
-    report.say(
-        "doors: the input has too many bytes: a script may have 1048576, the input of 'check' 403701760\n",
-    );
-}
-
-/// A trace without a script before it.
-pub fn tell_no_script(report: &mut Report) {
-    report.say(
-        "doors: line 1: no script stands before the line 'trace'\n    the input of 'check' is a script, a line that is exactly 'trace', and a trace\n",
-    );
-}
-
-/// A script without a line `trace` after it.
-pub fn tell_no_trace(report: &mut Report, number: u64) {
-    report.count(
-        b"doors: line #: the input ends without a line 'trace' after the script\n    the input of 'check' is a script, a line that is exactly 'trace', and a trace\n",
-        number,
-    );
 }
 
 /// Of an input of `check` without a line `trace`: that the bad line ends with this word, and has another before it or in it.
 pub fn tell_joined(report: &mut Report, number: u64, text: &[u8]) {
     let line = line_at(text, number);
-    let first = first_word(line).word;
-    if !first.is_empty() && first != b"trace".as_slice() && line.ends_with(b"trace") {
+    let first = found_at(line, 0).word;
+    if !matches!(first, [b'#', ..]) && first != b"trace".as_slice() && line.ends_with(b"trace") {
         report.say(
             "    the script's last line has no line feed, so that 'trace' became a part of it\n",
         );

@@ -2,12 +2,12 @@
 
 use crate::form::Role;
 use crate::near::is_near;
-use crate::outline::{Place, Walk};
+use crate::outline::{Place, Walk, name_at};
 use crate::report::Report;
 use crate::words::found_at;
 
 /// What has a name.
-#[derive(Clone, Copy, PartialEq, Eq)]
+#[derive(Clone, Copy)]
 pub(crate) enum Kind {
     /// A process or a child.
     Process,
@@ -15,13 +15,6 @@ pub(crate) enum Kind {
     Thread,
     Procedure,
     Nothing,
-}
-
-/// Names that are looked for: those of a kind, of procedures those of the process that begins in a line.
-#[derive(Clone, Copy)]
-pub(crate) struct Scope {
-    pub kind: Kind,
-    pub process: u64,
 }
 
 /// What a line declares that begins with such a word.
@@ -34,40 +27,44 @@ pub(crate) fn kind_of(role: Role) -> Kind {
     }
 }
 
-/// The names of which a line is to name one.
-pub(crate) fn scope_of(at: &Walk<'_>) -> Scope {
-    let kind = match at.role {
+/// What a line names that begins with such a word.
+pub(crate) fn kind_named(role: Role) -> Kind {
+    match role {
         Role::Child | Role::Kill => Kind::Process,
         Role::Create => Kind::Procedure,
         _ => Kind::Thread,
-    };
-    Scope {
-        kind,
-        process: at.process,
     }
 }
 
-impl Scope {
-    /// Whether a line declares a name of it.
-    fn has(&self, walk: &Walk<'_>) -> bool {
-        match walk.place {
-            Place::Body => false,
-            _ if kind_of(walk.role) != self.kind => false,
-            _ => self.kind != Kind::Procedure || walk.process == self.process,
-        }
-    }
+/// Which name is looked for.
+#[derive(Clone, Copy)]
+pub(crate) enum Sought<'a> {
+    Any,
+    Same(&'a [u8]),
+    Near(&'a [u8]),
 }
 
-/// The line of the first declaration of a name, or of one that is nearly this one; 0 where there is none.
-pub(crate) fn declaration_of(text: &[u8], scope: Scope, name: &[u8], may_differ: bool) -> u64 {
-    let mut walk = Walk::new(text);
-    for _ in 0..text.len() {
+/// The line that first declares such a name for the line `at`, after a line; 0 where there is none. Of procedures those count that
+/// are of the same process.
+pub(crate) fn declaration_of(at: &Walk<'_>, kind: Kind, sought: Sought<'_>, after: u64) -> u64 {
+    let mut walk = Walk::new(at.text);
+    for _ in 0..at.text.len() {
         if !walk.next() {
             break;
         }
-        if scope.has(&walk) {
+        let is_one = match (walk.place, kind) {
+            (Place::Body, _) => false,
+            (_, Kind::Procedure) if walk.process != at.process => false,
+            _ => kind_of(walk.role) as u8 == kind as u8,
+        };
+        if is_one && walk.number > after {
             let declared = found_at(walk.line, 1).word;
-            if declared == name || (may_differ && is_near(declared, name)) {
+            let is_sought = match sought {
+                Sought::Any => true,
+                Sought::Same(name) => declared == name,
+                Sought::Near(name) => is_near(declared, name),
+            };
+            if is_sought {
                 return walk.number;
             }
         }
@@ -76,22 +73,18 @@ pub(crate) fn declaration_of(text: &[u8], scope: Scope, name: &[u8], may_differ:
 }
 
 /// The declared names, at most 16 of them, each after a space.
-pub(crate) fn tell_names(report: &mut Report, text: &[u8], scope: Scope) {
-    let mut walk = Walk::new(text);
-    let mut count: u64 = 0;
-    for _ in 0..text.len() {
-        if count > 16 || !walk.next() {
-            break;
-        }
-        if scope.has(&walk) {
-            match count {
-                16 => report.say(" .."),
-                _ => report.tell(b" @", found_at(walk.line, 1).word, 0),
+pub(crate) fn tell_names(report: &mut Report, at: &Walk<'_>, kind: Kind) {
+    let mut line = 0;
+    for count in 0..17 {
+        line = declaration_of(at, kind, Sought::Any, line);
+        match (line, count) {
+            (0, 0) => return report.put(b" none"),
+            (0, _) => return,
+            (_, 16) => return report.put(b" .."),
+            _ => {
+                report.put(b" ");
+                report.word(name_at(at.text, line));
             }
-            count = count.saturating_add(1);
         }
-    }
-    if count == 0 {
-        report.say(" none");
     }
 }

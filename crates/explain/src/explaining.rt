@@ -1,13 +1,13 @@
 //! What is said of an answer, for its command, the input, the output and the status.
 
-use crate::bad_line::{
-    bad_line_of, tell_bad_line, tell_joined, tell_no_script, tell_no_trace, tell_size,
-};
+use crate::bad_line::{bad_line_of, tell_bad_line, tell_joined};
 use crate::command::tell_words;
-use crate::player::{Player, Replayed};
+use crate::messages::{Said, tell};
+use crate::names::Names;
+use crate::player::Player;
 use crate::report::Report;
-use crate::run::{Run, declared_in};
-use crate::run_told::{tell_budget, tell_refused, tell_stalled};
+use crate::run::{Replay, Run};
+use crate::run_told::{tell_able, tell_refused, tell_stalled};
 use crate::trace_told::{Trace, tell_no_turn, tell_other};
 use crate::warnings::warn;
 use dk_base::error::NoMemory;
@@ -32,8 +32,8 @@ fn tell_bad(report: &mut Report, answer: &Answer<'_>) {
         return;
     };
     match bad.reason {
-        Reason::Trace => tell_no_trace(report, bad.number),
-        _ if answer.trace.is_some() && answer.text.is_empty() => tell_no_script(report),
+        Reason::Trace => tell(report, Said::NoTrace, bad.number),
+        _ if answer.trace.is_some() && answer.text.is_empty() => tell(report, Said::NoScript, 0),
         _ => tell_bad_line(answer.alloc, report, answer.text, bad),
     }
     if answer.is_check && answer.trace.is_none() {
@@ -41,39 +41,32 @@ fn tell_bad(report: &mut Report, answer: &Answer<'_>) {
     }
 }
 
-/// What is said of a run.
-fn tell_run(report: &mut Report, run: &Run<'_, '_>, trace: &Trace<'_>, status: u8) {
-    match status {
-        1 => tell_stalled(report, run),
-        4 => tell_budget(report, run),
-        9 => tell_no_turn(report, run, trace),
-        _ => tell_refused(report, run),
-    }
-}
-
-/// The same of a run that was taken again.
-fn tell_replayed(report: &mut Report, replayed: &Replayed, answer: &Answer<'_>, trace: &Trace<'_>) {
-    match declared_in(answer.alloc, answer.text, replayed.runnable.as_slice()) {
-        Ok(declared) => {
-            let run = Run {
+/// What is said of the run that is taken again by the lines of a trace.
+fn tell_again<P: Player>(report: &mut Report, answer: &Answer<'_>, trace: &Trace<'_>) {
+    let mut replay = Replay {
+        events: 0,
+        acts: Vec::new(answer.alloc),
+        threads: Vec::new(answer.alloc),
+        paths: Names::new(answer.alloc),
+    };
+    let is_asked = answer.status != 4;
+    match replay.read::<P>(answer.alloc, answer.text, trace, is_asked) {
+        Ok(()) => {
+            let run = &Run {
                 text: answer.text,
-                declared: &declared,
-                acts: replayed.acts.as_slice(),
-                events: replayed.events,
+                threads: replay.threads.as_slice(),
+                paths: &replay.paths,
+                acts: replay.acts.as_slice(),
+                events: replay.events,
             };
-            tell_run(report, &run, trace, answer.status);
+            match answer.status {
+                1 => tell_stalled(report, run),
+                4 => tell_able(report, run, Said::Budget),
+                9 => tell_no_turn(report, run, trace),
+                _ => tell_refused(report, run),
+            }
         }
         Err(_) => report.lose(),
-    }
-}
-
-/// The same of the run that is taken again by its lines, up to the one that is not legal.
-fn tell_again<P: Player>(report: &mut Report, answer: &Answer<'_>, trace: &Trace<'_>) {
-    let most = trace.line.saturating_sub(1);
-    let is_asked = answer.status != 4;
-    match P::replay(answer.alloc, answer.text, trace.text, most, is_asked) {
-        Some(replayed) => tell_replayed(report, &replayed, answer, trace),
-        None => report.lose(),
     }
 }
 
@@ -88,26 +81,21 @@ fn tell_trace<P: Player>(report: &mut Report, answer: &Answer<'_>, text: &[u8]) 
     }
 }
 
-/// What is said of an answer to a script, and the warnings on the script.
-fn tell<P: Player>(report: &mut Report, answer: &Answer<'_>) {
-    match (answer.status, answer.trace) {
-        (2, _) => return tell_bad(report, answer),
-        (1 | 4 | 8, _) => tell_again::<P>(report, answer, &Trace::legal(answer.output)),
-        (9, Some(text)) => tell_trace::<P>(report, answer, text),
-        _ => {}
-    }
-    warn(answer.alloc, report, answer.text);
-}
-
-/// The same of an answer to this input.
-fn tell_kept<'a, P: Player>(
+/// What is said of an answer, and the warnings on the script. Of an input that is not kept no more is told than that it is too long.
+fn tell_answer<'a, P: Player>(
     alloc: Global,
     report: &mut Report,
     word: &str,
-    input: &'a [u8],
+    input: Option<&'a [u8]>,
     output: &'a [u8],
     status: u8,
 ) {
+    if output == b"bad line 0 size\n".as_slice() {
+        return tell(report, Said::TooLong, 0);
+    }
+    let Some(input) = input else {
+        return;
+    };
     let mut answer = Answer {
         alloc,
         is_check: word == "check",
@@ -119,23 +107,13 @@ fn tell_kept<'a, P: Player>(
     if answer.is_check {
         (answer.text, answer.trace) = P::parts(input);
     }
-    tell::<P>(report, &answer);
-}
-
-/// The same of what was kept of an input. Of a longer one no more is told than that it is too long.
-fn tell_output<P: Player>(
-    alloc: Global,
-    report: &mut Report,
-    word: &str,
-    input: Option<&[u8]>,
-    output: &[u8],
-    status: u8,
-) {
-    if output == b"bad line 0 size\n".as_slice() {
-        tell_size(report);
-    } else if let Some(input) = input {
-        tell_kept::<P>(alloc, report, word, input, output, status);
+    match (status, answer.trace) {
+        (2, _) => return tell_bad(report, &answer),
+        (1 | 4 | 8, _) => tell_again::<P>(report, &answer, &Trace::legal(output)),
+        (9, Some(text)) => tell_trace::<P>(report, &answer, text),
+        _ => {}
     }
+    warn(alloc, report, answer.text);
 }
 
 /// What is said on the error stream of a command's answer, by the words, the input, the output and the exit status: for 1 what each
@@ -155,7 +133,7 @@ pub fn explanation<P: Player>(
         5..=7 => {}
         _ => {
             if let ([word], Some(output)) = (words, output) {
-                tell_output::<P>(alloc, &mut report, word, input, output, status);
+                tell_answer::<P>(alloc, &mut report, word, input, output, status);
             }
         }
     }

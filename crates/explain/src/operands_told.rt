@@ -1,9 +1,10 @@
 //! What is told of a line whose operands are wrong.
 
 use crate::case::{Case, Key};
-use crate::form::form_of_line;
+use crate::form::form_of;
 use crate::operand::{Operand, told_of};
 use crate::report::Report;
+use crate::said::Topic;
 use crate::stage::find_wrong_word;
 use std::alloc::Global;
 
@@ -15,18 +16,18 @@ fn slip_of_string(word: &[u8]) -> Key<'_> {
             escaped = false;
         } else if *byte == b'"' {
             let rest = word.get(place.saturating_add(1)..).unwrap_or(&[]);
-            let of: &[u8] = if rest.is_empty() {
-                b"escaped"
+            let topic = if rest.is_empty() {
+                Topic::Escaped
             } else {
-                b"string"
+                Topic::String
             };
-            return Key { of, word: rest };
+            return Key { topic, word: rest };
         } else {
             escaped = *byte == b'\\';
         }
     }
     Key {
-        of: b"unclosed",
+        topic: Topic::Unclosed,
         word,
     }
 }
@@ -38,31 +39,29 @@ pub(crate) fn find_wrong(
     case: &mut Case<'_, '_>,
     is_range: bool,
 ) {
-    let Some(form) = form_of_line(case.at.line) else {
+    let Some(form) = form_of(case.at.line, None) else {
         return;
     };
+    case.said.topic = Topic::Whole;
     if !find_wrong_word(alloc, report, case, form, is_range) {
-        case.said.of = b"whole";
         return;
     }
     let (word, class) = (case.found.word, told_of(case.operand).class);
-    let mut fault = class;
+    case.said.topic = Topic::Operand;
+    case.said.word = class;
+    case.note.topic = Topic::OperandForm;
+    case.note.word = class;
     if word.is_empty() {
-        fault = b"missing";
+        case.said.topic = Topic::Missing;
     } else if is_range {
-        fault = b"range";
+        case.said.topic = Topic::Range;
     } else {
         case.slip = match (case.operand, word) {
             (Operand::Piece, [b'"', ..]) => slip_of_string(word),
-            _ => Key { of: class, word },
+            _ => Key {
+                topic: Topic::Class,
+                word,
+            },
         };
     }
-    case.said = Key {
-        of: b"operand",
-        word: fault,
-    };
-    case.note = Key {
-        of: b"operand-form",
-        word: class,
-    };
 }

@@ -8,16 +8,27 @@ use script_text::lines::next_line;
 #[derive(Clone, Copy)]
 pub(crate) enum Place {
     /// After the first line.
-    Start,
+    Start = 1,
     /// After the budget.
     Processes,
     /// In a process, between its members.
     Members,
-    /// In a thread or a procedure.
-    Body,
     /// After a schedule.
     Schedule,
+    /// In a thread or a procedure.
+    Body,
 }
+
+/// The words of places, in their order, and of two in a body.
+static PLACES: &str = "\
+after-header
+after-budget
+in-process
+after-schedule
+in-body
+in-block
+after-block
+";
 
 /// The lines of a text, counted from 1.
 #[derive(Clone, Copy)]
@@ -52,7 +63,7 @@ pub fn line_at(text: &[u8], number: u64) -> &[u8] {
     for _ in 0..number {
         match lines.next() {
             Some((_, next)) => line = next,
-            None => return &[],
+            None => return lines.rest,
         }
     }
     line
@@ -79,6 +90,8 @@ pub(crate) struct Walk<'a> {
     pub process: u64,
     /// The last thread or procedure.
     pub body: u64,
+    /// The innermost that is open: the body; where `walk_to` was told the line's depth a block.
+    pub opener: u64,
     /// How many blocks are open in the body.
     pub depth: u64,
     /// Whether the body has had a block.
@@ -97,6 +110,7 @@ impl<'a> Walk<'a> {
             place: Place::Start,
             process: 0,
             body: 0,
+            opener: 0,
             depth: 0,
             has_blocks: false,
         }
@@ -104,40 +118,43 @@ impl<'a> Walk<'a> {
 
     /// Where the line stands, in a word.
     pub(crate) fn place_word(&self) -> &'static [u8] {
-        match self.place {
-            Place::Start => b"after-header",
-            Place::Processes => b"after-budget",
-            Place::Members => b"in-process",
-            Place::Body if self.depth > 0 => b"in-block",
-            Place::Body if self.has_blocks => b"after-block",
-            Place::Body => b"in-body",
-            Place::Schedule => b"after-schedule",
-        }
+        let row = match self.place {
+            Place::Body if self.depth > 0 => 6,
+            Place::Body if self.has_blocks => 7,
+            place => place as u64,
+        };
+        line_at(PLACES.as_bytes(), row)
     }
 
     /// Goes on to the next line, if there is one.
     pub(crate) fn next(&mut self) -> bool {
         // what is open after the line so far
-        match (self.place, self.role) {
-            (Place::Body, Role::End) if self.depth == 0 => self.place = Place::Members,
-            (Place::Body, Role::End) => self.depth = self.depth.saturating_sub(1),
-            (Place::Body, Role::Block) => {
-                self.has_blocks = true;
-                self.depth = self.depth.saturating_add(1);
+        if let Place::Body = self.place {
+            match self.role {
+                Role::End if self.depth == 0 => self.place = Place::Members,
+                Role::End => self.depth = self.depth.saturating_sub(1),
+                Role::Block => {
+                    self.has_blocks = true;
+                    self.depth = self.depth.saturating_add(1);
+                }
+                _ => {}
             }
-            (Place::Body, _) => {}
-            (_, Role::Budget) => self.place = Place::Processes,
-            (_, Role::Process | Role::Child) => {
-                self.place = Place::Members;
-                self.process = self.number;
+        } else {
+            match self.role {
+                Role::Budget => self.place = Place::Processes,
+                Role::Process | Role::Child => {
+                    self.place = Place::Members;
+                    self.process = self.number;
+                }
+                Role::Thread | Role::Proc => {
+                    self.place = Place::Body;
+                    self.body = self.number;
+                    self.opener = self.number;
+                    self.has_blocks = false;
+                }
+                Role::Schedule => self.place = Place::Schedule,
+                _ => {}
             }
-            (_, Role::Thread | Role::Proc) => {
-                self.place = Place::Body;
-                self.body = self.number;
-                self.has_blocks = false;
-            }
-            (_, Role::Schedule) => self.place = Place::Schedule,
-            _ => {}
         }
         let Some((line, rest)) = next_line(self.rest) else {
             self.line = &[];
@@ -152,30 +169,18 @@ impl<'a> Walk<'a> {
     }
 }
 
-/// The line of this number, or the text's end.
-pub(crate) fn walk_to(text: &[u8], number: u64) -> Walk<'_> {
+/// The line of this number, or the text's end, and the last line before it that fewer blocks than `depth` are open before.
+pub(crate) fn walk_to(text: &[u8], number: u64, depth: u64) -> Walk<'_> {
     let mut walk = Walk::new(text);
     for _ in 0..u64::MAX {
         if !walk.next() || walk.number == number {
             break;
         }
+        // after the line that begins it no end has closed it
+        if walk.depth < depth {
+            walk.opener = walk.number;
+        }
     }
     walk.number = number;
     walk
-}
-
-/// Where the innermost begins that is open before a line: a block, or the thread or procedure.
-pub(crate) fn opener_of(end: &Walk<'_>) -> u64 {
-    let mut opener = end.body;
-    let mut walk = Walk::new(end.text);
-    for _ in 0..end.text.len() {
-        if !walk.next() || walk.number == end.number {
-            break;
-        }
-        // after the line that begins it no end has closed it
-        if walk.depth < end.depth {
-            opener = walk.number;
-        }
-    }
-    opener
 }

@@ -1,64 +1,59 @@
 //! What is told of a line that begins with a word that has no place there.
 
 use crate::case::{Case, Key};
-use crate::form::form_of;
+use crate::form::{Role, form_of};
 use crate::outline::Place;
 use crate::rule::has_one_of;
-use crate::said::said_of;
+use crate::said::{Topic, said_of};
+use crate::words::found_at;
 
-/// Of a word that is no word of the language.
-fn find_no_word(case: &mut Case<'_, '_>) {
+/// What follows where no line begins with a word: what may have been meant, or what is wanted.
+fn note_of<'a>(case: &Case<'_, 'a>, wanted: Key<'a>) -> Key<'a> {
     let word = case.found.word;
-    case.said.of = b"no-word";
-    if case.at.line == b"trace".as_slice() {
-        case.note.of = b"lone-trace";
-        return;
+    if let Some(form) = form_of(case.at.line, Some(case.at.place)) {
+        return Key {
+            topic: Topic::Near,
+            word: found_at(form.text.as_bytes(), 0).word,
+        };
     }
-    case.slip = Key { of: b"line", word };
-    if !said_of(case.slip).is_empty() {
-        return;
-    }
-    case.note = if let Some(form) = form_of(word, Some(case.at.place)) {
-        Key {
-            of: b"near",
-            word: form.word(),
-        }
-    } else if has_one_of(word, b"();") {
-        Key {
-            of: b"brackets",
+    if has_one_of(word, b"();") {
+        return Key {
+            topic: Topic::Brackets,
             word,
-        }
-    } else {
-        Key {
-            of: b"wanted",
-            word: case.at.place_word(),
-        }
-    };
+        };
+    }
+    wanted
 }
 
 /// Of a line whose first word has no place there.
 pub(crate) fn find_place(case: &mut Case<'_, '_>) {
-    let Some(form) = form_of(case.found.word, None) else {
-        if !case.found.word.is_empty() {
-            find_no_word(case);
-        }
-        return;
+    let (at, word) = (case.at, case.found.word);
+    let wanted = Key {
+        topic: match at.text.get(13) {
+            Some(b'1') => Topic::WantedFirst,
+            _ => Topic::Wanted,
+        },
+        word: at.place_word(),
     };
-    let word = case.at.place_word();
-    case.said.of = word;
-    match (case.at.place, case.at.text.get(13)) {
-        (_, Some(version @ b'1'..=b'3')) if form.since > *version => {
-            case.said.of = match form.since {
-                b'2' => b"since-2",
-                b'3' => b"since-3",
-                _ => b"since-4",
-            };
+    match at.role {
+        Role::Unknown if word.is_empty() => {}
+        Role::Unknown => {
+            case.said.topic = Topic::NoWord;
+            case.slip.topic = Topic::Line;
+            case.slip.word = word;
+            if at.line == b"trace".as_slice() {
+                case.slip.topic = Topic::Lone;
+            } else if said_of(case, case.slip).is_empty() {
+                case.note = note_of(case, wanted);
+            }
         }
-        (Place::Body, _) => {}
         _ => {
-            case.note = Key {
-                of: b"wanted",
-                word,
+            case.said.topic = Topic::Version;
+            if said_of(case, case.said).is_empty() {
+                case.said.topic = Topic::Place;
+                if !matches!(at.place, Place::Body) {
+                    case.note = wanted;
+                }
             }
         }
     }

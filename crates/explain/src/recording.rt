@@ -10,110 +10,74 @@ use std::alloc::Global;
 /// As many bytes are kept at most, of the input and of the output.
 const KEPT_MAX: usize = 16_777_216;
 
-/// The bytes so far. No more are added once they were too many, or memory ran out for them.
+/// A source or a sink, and what went through it. To its user it is that source or sink itself.
 #[derive(Drop)]
-struct Record {
+pub struct Recorded<T> {
+    inner: T,
     bytes: Bytes,
-    is_lost: bool,
+    /// How many bytes went through. Where they are too many, or memory ran out for some, not all of them are kept.
+    count: usize,
 }
 
-impl Record {
-    fn new(alloc: Global) -> Self {
-        Record {
+/// What it gave is kept.
+pub type RecordedSource<S> = Recorded<S>;
+
+/// What it took is kept.
+pub type RecordedSink<O> = Recorded<O>;
+
+impl<T: Drop> Recorded<T> {
+    pub fn new(alloc: Global, inner: T) -> Self {
+        Recorded {
+            inner,
             bytes: Bytes::new(alloc),
-            is_lost: false,
+            count: 0,
         }
     }
 
-    /// All the bytes, unless some were lost.
-    fn slice(&self) -> Option<&[u8]> {
-        if self.is_lost {
-            None
-        } else {
+    /// What went through so far, if all of it is kept.
+    pub fn kept(&self) -> Option<&[u8]> {
+        if self.bytes.len() == self.count {
             Some(self.bytes.slice())
+        } else {
+            None
         }
     }
 
-    /// Keeps the first `count` of these bytes, too, or nothing any more.
-    fn keep(&mut self, piece: &[u8], count: usize) {
-        let (taken, _) = piece.split_at(count.min(piece.len()));
-        let room = KEPT_MAX.saturating_sub(self.bytes.len());
-        if self.is_lost || taken.len() > room || self.bytes.append(taken).is_err() {
-            self.is_lost = true;
+    /// The first `count` of these bytes went through, too.
+    fn keep(&mut self, piece: &[u8], count: usize)
+        ensures { self.new.inner ≡ self.old.inner }
+    {
+        self.count = self.count.saturating_add(count);
+        if self.count <= KEPT_MAX {
+            let _lost = self.bytes.append(piece.split_at(count.min(piece.len())).0);
         }
     }
 }
 
-/// A source, and what it gave. To its reader it is the source itself.
-#[derive(Drop)]
-pub struct RecordedSource<S> {
-    source: S,
-    record: Record,
-}
+impl<S: Source + Drop> Source for Recorded<S> {
+    ghost left = { λ r. S.left r.inner };
 
-impl<S: Source + Drop> RecordedSource<S> {
-    pub fn new(alloc: Global, source: S) -> Self {
-        RecordedSource {
-            source,
-            record: Record::new(alloc),
-        }
-    }
-
-    /// What was read so far, unless it was too much to be kept.
-    pub fn given(&self) -> Option<&[u8]> {
-        self.record.slice()
-    }
-}
-
-impl<S: Source + Drop> Source for RecordedSource<S> {
-    ghost left = { λ r. S.left r.source };
-
-    ghost faults = { λ r. S.faults r.source };
+    ghost faults = { λ r. S.faults r.inner };
 
     fn read(&mut self, buf: &mut [u8]) -> Result<usize, Failed> {
-        match self.source.read(buf) {
-            Ok(count) => {
-                self.record.keep(buf, count);
-                Ok(count)
-            }
-            Err(fault) => Err(fault),
+        let result = self.inner.read(buf);
+        if let Ok(count) = result {
+            self.keep(buf, count);
         }
+        result
     }
 }
 
-/// A sink, and what it took. To its writer it is the sink itself.
-#[derive(Drop)]
-pub struct RecordedSink<O> {
-    sink: O,
-    record: Record,
-}
+impl<O: Sink + Drop> Sink for Recorded<O> {
+    ghost held = { λ r. O.held r.inner };
 
-impl<O: Sink + Drop> RecordedSink<O> {
-    pub fn new(alloc: Global, sink: O) -> Self {
-        RecordedSink {
-            sink,
-            record: Record::new(alloc),
-        }
-    }
-
-    /// What was written so far, unless it was too much to be kept.
-    pub fn taken(&self) -> Option<&[u8]> {
-        self.record.slice()
-    }
-}
-
-impl<O: Sink + Drop> Sink for RecordedSink<O> {
-    ghost held = { λ r. O.held r.sink };
-
-    ghost faults = { λ r. O.faults r.sink };
+    ghost faults = { λ r. O.faults r.inner };
 
     fn write(&mut self, piece: &[u8]) -> Result<usize, Failed> {
-        match self.sink.write(piece) {
-            Ok(count) => {
-                self.record.keep(piece, count);
-                Ok(count)
-            }
-            Err(fault) => Err(fault),
+        let result = self.inner.write(piece);
+        if let Ok(count) = result {
+            self.keep(piece, count);
         }
+        result
     }
 }

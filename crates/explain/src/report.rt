@@ -1,5 +1,6 @@
 //! The lines that are written to the error stream.
 
+use crate::words::Found;
 use dk_base::error::NoMemory;
 use dk_base::list::Bytes;
 use itoa::Buffer;
@@ -8,13 +9,6 @@ use std::alloc::Global;
 
 /// Of longer words and lines the first bytes are shown.
 const SHOWN_MAX: usize = 200;
-
-/// Places of a line, from 0: the first, and the one after the last.
-#[derive(Clone, Copy)]
-pub struct Span {
-    pub start: usize,
-    pub end: usize,
-}
 
 /// What is written so far. Where memory ran out for a part of it, nothing is written at the end.
 #[derive(Drop)]
@@ -68,77 +62,32 @@ impl Report {
         }
     }
 
-    /// The same in quotes.
-    pub fn quoted(&mut self, bytes: &[u8]) {
-        self.say("'");
-        self.word(bytes);
-        self.say("'");
-    }
-
     pub fn number(&mut self, number: u64) {
         self.put(Buffer::new().format(number).as_bytes());
     }
 
-    /// Words of a sentence: where a `~` stands in them the word in quotes, at a `@` without, and at a `#` the number.
-    pub fn tell(&mut self, words: &[u8], word: &[u8], number: u64) {
-        for byte in words {
-            match *byte {
-                b'~' => self.quoted(word),
-                b'@' => self.word(word),
-                b'#' => self.number(number),
-                other => self.put(&[other]),
-            }
-        }
-    }
-
-    /// The same without a word.
-    pub fn count(&mut self, words: &[u8], number: u64) {
-        self.tell(words, &[], number);
-    }
-
-    /// A message on a line of a trace.
-    pub fn trace(&mut self, at: u64, words: &[u8], word: &[u8], number: u64) {
-        self.count(b"doors: line # of the trace: ", at);
-        self.tell(words, word, number);
-        self.end();
-    }
-
-    /// An indented line below a message.
-    pub fn note(&mut self, words: &[u8], word: &[u8], number: u64) {
-        self.say("    ");
-        self.tell(words, word, number);
-        self.end();
-    }
-
-    /// The end of a line.
-    pub fn end(&mut self) {
-        self.say("\n");
-    }
-
-    /// A line as it stands, and marks below the bytes of the span. Of a long line the first bytes, without marks.
-    pub fn show(&mut self, line: &[u8], span: Span) {
+    /// A line as it stands, and marks below a word of it. Of a long line the first bytes, without marks.
+    pub fn show(&mut self, line: &[u8], found: Found<'_>) {
         self.say("    ");
         self.word(line);
-        self.end();
+        self.say("\n");
         if line.len() > SHOWN_MAX {
             return;
         }
         self.say("    ");
+        let end = line.len().saturating_sub(found.rest.len());
+        let start = end.saturating_sub(found.word.len());
         for (place, byte) in line.iter().enumerate() {
-            if place >= span.end {
+            if place >= end {
                 break;
             }
-            self.say(match (is_printable(*byte), place >= span.start) {
+            self.say(match (is_printable(*byte), place >= start) {
                 (true, true) => "^",
                 (true, false) => " ",
                 (false, true) => "^^^^",
                 (false, false) => "    ",
             });
         }
-        self.say(if span.start < line.len() {
-            "\n"
-        } else {
-            " ^\n"
-        });
+        self.say(if start < line.len() { "\n" } else { " ^\n" });
     }
 }

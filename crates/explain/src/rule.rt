@@ -1,7 +1,6 @@
 //! Tests of words, by which a row of `said.rt` is chosen.
 
 use script_text::names::is_name;
-use script_text::parts::parts_at;
 use script_text::words::next_word;
 
 /// Whether a list of words has this one.
@@ -27,21 +26,19 @@ pub(crate) fn has_one_of(word: &[u8], bytes: &[u8]) -> bool {
     false
 }
 
-/// Whether a word passes a test, of whose name the first letter tells which it is.
+/// Whether a word passes a test: `said.rt` has what its first byte means.
 pub(crate) fn is_passed(test: &[u8], word: &[u8]) -> bool {
-    let (test, part) = match parts_at(b' ', test) {
-        Some(parts) => parts,
-        None => (test, test),
+    let Some((kind, part)) = test.split_first() else {
+        return true;
     };
-    match test {
-        [b'i', ..] => is_listed(part, word),
-        [b'b', ..] => word.starts_with(part),
-        [b'e', ..] => word.ends_with(part),
-        [b'f', ..] => matches!(word, [first, ..] if part.contains(first)),
-        [b'h', ..] => has_one_of(word, part),
-        [b'z', ..] => matches!(word, [b'0', b'0'..=b'9', ..]),
-        [b'l', ..] => word.len() > 16,
-        [b'n', ..] => is_name(word),
-        _ => true,
+    match *kind {
+        b'=' => is_listed(part, word),
+        b'^' => word.starts_with(part),
+        b'$' => word.ends_with(part),
+        b'[' => matches!(word, [first, ..] if part.contains(first)),
+        b'*' => has_one_of(word, part),
+        b'0' => matches!(word, [b'0', b'0'..=b'9', ..]),
+        b'+' => word.len() > 16,
+        _ => is_name(word),
     }
 }

@@ -1,12 +1,13 @@
 //! A run that is asked how its threads stand, as plain values.
 
-use crate::acts::{Act, first_of};
+use crate::acts::Act;
 use crate::form::{Role, role_of_line};
 use crate::names::Names;
 use crate::outline::Lines;
+use crate::player::{Player, is_event};
+use crate::trace_told::Trace;
 use crate::words::found_at;
 use dk_base::error::NoMemory;
-use dk_base::event::What;
 use dk_base::number::Tid;
 use script_line::keyword::Keyword;
 use script_line::keyword_words::keyword_of;
@@ -31,28 +32,82 @@ pub(crate) struct Thread<'a> {
     pub is_runnable: bool,
 }
 
-/// The text of a script, what it declares, what its threads did, and how many events the run has.
-#[derive(Clone, Copy)]
-pub(crate) struct Run<'r, 'a> {
-    pub text: &'a [u8],
-    pub declared: &'r Declared<'a>,
-    pub acts: &'r [Act],
-    pub events: u64,
-}
-
-/// The place of the path in a line that begins with this word, or 0.
-fn path_place(word: &[u8]) -> usize {
-    match keyword_of(LATEST, word) {
-        Some(Keyword::Attach | Keyword::Open) => 2,
-        Some(Keyword::Detach | Keyword::Await) => 1,
-        _ => 0,
+impl<'a> Thread<'a> {
+    /// Goes on by a line. Whether that begins a thread, which this is then.
+    fn next(&mut self, line: &'a [u8]) -> bool {
+        let role = role_of_line(line);
+        match role {
+            Role::Process | Role::Child => {
+                self.process = self.process.saturating_add(1);
+                self.process_name = found_at(line, 1).word;
+                self.is_in_child = matches!(role, Role::Child);
+                false
+            }
+            Role::Thread | Role::Spare => {
+                self.number = Tid(self.number.0.saturating_add(1));
+                self.name = found_at(line, 1).word;
+                self.is_spare = matches!(role, Role::Spare);
+                true
+            }
+            _ => false,
+        }
     }
 }
 
-impl<'a> Thread<'a> {
-    /// Before the first line of a script.
-    fn none() -> Self {
-        Thread {
+/// How many events a run has, what its threads did, where that is asked for, and what its script declares: the threads, in order, and the
+/// paths, in the order of their first uses.
+#[derive(Drop)]
+pub(crate) struct Replay<'a> {
+    pub events: u64,
+    pub acts: Vec<Act>,
+    pub threads: Vec<Thread<'a>>,
+    pub paths: Names<'a>,
+}
+
+impl<'a> Replay<'a> {
+    /// Adds what the turns did of the lines of a trace before the one that is not legal, up to a line that is no event or whose thread
+    /// cannot take a turn.
+    fn take_turns<P: Player>(
+        &mut self,
+        player: &mut P,
+        trace: &Trace<'_>,
+        is_asked: bool,
+    ) -> Result<(), NoMemory> {
+        let mut lines = Lines::new(trace.text);
+        for _ in 1..trace.line {
+            let Some((_, line)) = lines.next() else {
+                break;
+            };
+            if !is_event(line) {
+                break;
+            }
+            let Some(act) = player.take(line)? else {
+                break;
+            };
+            self.events = self.events.saturating_add(1);
+            if is_asked && self.acts.push(act).is_err() {
+                return Err(NoMemory);
+            }
+        }
+        Ok(())
+    }
+
+    /// Adds the path that a line names.
+    fn add_path(&mut self, line: &'a [u8]) -> Result<(), NoMemory> {
+        let place = match keyword_of(LATEST, found_at(line, 0).word) {
+            Some(Keyword::Attach | Keyword::Open) => 2,
+            Some(Keyword::Detach | Keyword::Await) => 1,
+            _ => return Ok(()),
+        };
+        if self.paths.at(LAST_PATH).is_some() {
+            return Ok(());
+        }
+        self.paths.add(found_at(line, place).word)
+    }
+
+    /// Adds what the lines of a script declare.
+    fn add_lines<P: Player>(&mut self, player: &P, text: &'a [u8]) -> Result<(), NoMemory> {
+        let mut thread = Thread {
             number: Tid(0),
             name: &[],
             process: 0,
@@ -60,74 +115,7 @@ impl<'a> Thread<'a> {
             is_spare: false,
             is_in_child: false,
             is_runnable: false,
-        }
-    }
-
-    /// The process that begins in a line.
-    fn set_process(&mut self, line: &'a [u8], is_in_child: bool) {
-        self.process = self.process.saturating_add(1);
-        self.process_name = found_at(line, 1).word;
-        self.is_in_child = is_in_child;
-    }
-
-    /// The thread that begins in a line.
-    fn set_thread(&mut self, line: &'a [u8], is_spare: bool) {
-        self.number = Tid(self.number.0.saturating_add(1));
-        self.name = found_at(line, 1).word;
-        self.is_spare = is_spare;
-    }
-
-    /// Goes on by a line. Whether that begins a thread, which this is then.
-    fn next(&mut self, line: &'a [u8]) -> bool {
-        match role_of_line(line) {
-            Role::Process => self.set_process(line, false),
-            Role::Child => self.set_process(line, true),
-            Role::Thread => {
-                self.set_thread(line, false);
-                return true;
-            }
-            Role::Spare => {
-                self.set_thread(line, true);
-                return true;
-            }
-            _ => {}
-        }
-        false
-    }
-}
-
-/// What the lines of a script declare: its threads, in order, and its paths, in the order of their first uses.
-#[derive(Drop)]
-pub(crate) struct Declared<'a> {
-    pub threads: Vec<Thread<'a>>,
-    pub paths: Names<'a>,
-}
-
-impl<'a> Declared<'a> {
-    /// Adds the path that a line names.
-    fn add_path(&mut self, line: &'a [u8]) -> Result<(), NoMemory> {
-        let place = path_place(found_at(line, 0).word);
-        if place == 0 || self.paths.at(LAST_PATH).is_some() {
-            return Ok(());
-        }
-        self.paths.add(found_at(line, place).word)
-    }
-
-    /// Adds a thread, of which its place tells whether it can take a turn.
-    fn add_thread(&mut self, thread: &Thread<'a>, runnable: &[bool]) -> Result<(), NoMemory> {
-        let is_runnable = matches!(runnable.get(self.threads.len()), Some(true));
-        let thread = Thread {
-            is_runnable,
-            ..*thread
         };
-        match self.threads.push(thread) {
-            Ok(()) => Ok(()),
-            Err(_) => Err(NoMemory),
-        }
-    }
-
-    fn add_lines(&mut self, text: &'a [u8], runnable: &[bool]) -> Result<(), NoMemory> {
-        let mut thread = Thread::none();
         let mut lines = Lines::new(text);
         for _ in text {
             let Some((_, line)) = lines.next() else {
@@ -135,50 +123,39 @@ impl<'a> Declared<'a> {
             };
             self.add_path(line)?;
             if thread.next(line) {
-                self.add_thread(&thread, runnable)?;
+                thread.is_runnable = player.is_runnable(thread.number);
+                if self.threads.push(thread).is_err() {
+                    return Err(NoMemory);
+                }
             }
         }
         Ok(())
     }
-}
 
-/// What the lines of a script declare.
-pub(crate) fn declared_in<'a>(
-    alloc: Global,
-    text: &'a [u8],
-    runnable: &[bool],
-) -> Result<Declared<'a>, NoMemory> {
-    let mut declared = Declared {
-        threads: Vec::new(alloc),
-        paths: Names::new(alloc),
-    };
-    match declared.add_lines(text, runnable) {
-        Ok(()) => Ok(declared),
-        Err(error) => Err(error),
-    }
-}
-
-impl<'r, 'a> Run<'r, 'a> {
-    /// The threads of the script.
-    pub(crate) fn threads(&self) -> &'r [Thread<'a>] {
-        self.declared.threads.as_slice()
-    }
-
-    /// The name of a thread.
-    pub(crate) fn name(&self, number: Tid) -> &'a [u8] {
-        match self.threads().get((number.0 as usize).saturating_sub(1)) {
-            Some(thread) => thread.name,
-            None => &[],
+    /// Adds all of the run that is taken again by the lines of a trace. What the threads did is kept where it is asked for.
+    pub(crate) fn read<P: Player>(
+        &mut self,
+        alloc: Global,
+        text: &'a [u8],
+        trace: &Trace<'_>,
+        is_asked: bool,
+    ) -> Result<(), NoMemory> {
+        match P::start(alloc, text) {
+            Some(mut player) => {
+                self.take_turns(&mut player, trace, is_asked)?;
+                self.add_lines(&player, text)
+            }
+            None => Err(NoMemory),
         }
     }
+}
 
-    /// The `kill` that ended a thread before its first act. There is none before its process began, at the start or by a `fork`.
-    pub(crate) fn first_kill(&self, thread: &Thread<'_>) -> Option<&'r Act> {
-        let since = if thread.is_in_child {
-            first_of(self.acts, What::Fork, thread.process, 0)?.event
-        } else {
-            0
-        };
-        first_of(self.acts, What::Kill, thread.process, since)
-    }
+/// The text of a script, what it declares, what its threads did, and how many events the run has.
+#[derive(Clone, Copy)]
+pub(crate) struct Run<'r, 'a> {
+    pub text: &'a [u8],
+    pub threads: &'r [Thread<'a>],
+    pub paths: &'r Names<'a>,
+    pub acts: &'r [Act],
+    pub events: u64,
 }

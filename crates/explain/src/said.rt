@@ -1,141 +1,223 @@
 //! All that is said of bad lines, and in warnings on lines.
 
-use crate::case::Key;
-use crate::operand::columns;
+use crate::case::{Case, Key};
+use crate::operand::{columns, told_of};
+use crate::outline::line_at;
 use crate::rule::{is_listed, is_passed};
 use script_text::lines::next_line;
 
+/// What is told of. `TOPICS` has the line of its number.
+#[derive(Clone, Copy)]
+pub(crate) enum Topic {
+    Byte = 1,
+    Header,
+    Many,
+    Body,
+    Open,
+    Twice,
+    Undeclared,
+    Declared,
+    Named,
+    Near,
+    NoWord,
+    Lone,
+    Brackets,
+    Wanted,
+    /// The same in a script of version 1.
+    WantedFirst,
+    Whole,
+    Missing,
+    Range,
+    Operand,
+    OperandForm,
+    Unreached,
+    Unset,
+    NearVariable,
+    Line,
+    Unclosed,
+    Escaped,
+    String,
+    /// It has no rows.
+    Nothing,
+    /// Its rows are those of the class of the operand.
+    Class,
+    /// Its rows are those of the place.
+    Place,
+    /// Its rows are those of the script's version.
+    Version,
+}
+
+static TOPICS: &str = "\
+byte
+header
+many
+body
+open
+twice
+undeclared
+declared
+named
+near
+no-word
+lone
+brackets
+wanted
+wanted-1
+whole
+missing
+range
+operand
+operand-form
+unreached
+unset
+near-variable
+line
+unclosed
+escaped
+string
+";
+
 /// A row a line, of which the first counts that fits. First, of what: the reason of a bad line, what was found wrong in it, or the
 /// words of the places where that is a place; and of what was meant by a word that begins no line, by what follows the closing quote
-/// of a string, by a word in place of an operand of these classes. Then a test of the word of the case: that it `is` one of these
-/// words, `begins` or `ends` so, has one of these bytes `first`, or `has` one, has `zeros` before a digit, is too `long` for a name,
-/// is a `name`, or `any`. Then a template, in which `{NAME}` stands for a fact: `case.rt` has them; `{end}` ends a line.
+/// of a string, by a word in place of an operand of these classes. Then a test of the word that it is told for: `=` that it is one of
+/// these words, `^` and `$` that it begins and ends so, `[` that it begins with one of these bytes, `*` that it has one of them, `0`
+/// that it has zeros before a digit, `+` that it is too long for a name, `@` that it is a name; or none. Then a template, in which `%`
+/// and a letter stand for a fact: `case.rt` has them; `%e` ends a line.
 static SAID: &str = "\
-byte|is tab|doors: line {number}: a tab ('{word}') in column {column}{end}{shown}    indent and separate words with spaces{end}
-byte|is last-return|doors: line {number}: a carriage return ('{word}') in column {column}{end}{shown}    lines end with a line feed alone: tr -d '\\r' takes carriage returns out{end}
-byte|is inner-return|doors: line {number}: a carriage return ('{word}') in column {column}{end}{shown}    tr '\\r' '\\n' makes line feeds of carriage returns{end}
-byte|is order-mark|doors: line {number}: a byte above 0x7e ('{word}') in column {column}{end}{shown}    where it is a byte order mark at the start of the file, save it without; in a string write \\xef{end}
-byte|is quote|doors: line {number}: a byte above 0x7e ('{word}') in column {column}{end}{shown}    where it is a typographic quote, write \"; in a string such a byte is written \\xHH; elsewhere it has no place{end}
-byte|is high|doors: line {number}: a byte above 0x7e ('{word}') in column {column}{end}{shown}    in a string such a byte is written \\xHH; elsewhere it has no place{end}
-byte|is control|doors: line {number}: a control byte ('{word}') in column {column}{end}{shown}    in a string such a byte is written \\xHH; elsewhere it has no place{end}
-header|is empty|doors: line 1: the input is empty{end}    the first line is exactly 'doors script 1', or 2, 3 or 4 in place of 1; comments come after it{end}
-header|is spaced|doors: line 1: a space too many stands in '{line}'{end}    the first line is exactly 'doors script 1', or 2, 3 or 4 in place of 1; comments come after it{end}
-header|any|doors: line 1: a script does not begin so{end}    {line}{end}    the first line is exactly 'doors script 1', or 2, 3 or 4 in place of 1; comments come after it{end}
-many|is process child|doors: line {number}: a 65th process; a script has at most 64, children with them{end}    {line}{end}
-many|is thread spare|doors: line {number}: a 65th thread; a script has at most 64, spares with them{end}    {line}{end}
-many|is proc|doors: line {number}: a 65th procedure of its process, which has at most 64{end}    {line}{end}
-many|is repeat if|doors: line {number}: this would be the 9th block inside one another; 8 is the most{end}    {line}{end}
-many|any|doors: line {number}: a 33rd name of a variable in its body, which has at most 32{end}    {line}{end}
-body|any|doors: line {number}: '{word}' in place of the first command of the 'repeat' in line {opener}{end}{shown}    the first line in a 'repeat' is a command{end}
-open|is in-block|doors: line {number}: the text ends in {opened}{end}    {missing} lines 'end' are missing{end}
-open|is after-block|doors: line {number}: the text ends in {opened}{end}    its 'end' is missing, or that of a block in it{end}
-open|any|doors: line {number}: the text ends in {opened}{end}    its 'end' is missing{end}
-twice|is process child|doors: line {number}: the name '{word}' stands in line {other} already{end}{shown}    names of processes and children are unique in the script{end}
-twice|is thread spare|doors: line {number}: the name '{word}' stands in line {other} already{end}{shown}    names of threads and spares are unique in the script{end}
-twice|any|doors: line {number}: the name '{word}' stands in line {other} already{end}{shown}    names of procedures are unique in their process{end}
-undeclared|is child kill fork|doors: line {number}: no process '{word}'{end}{shown}
-undeclared|is create|doors: line {number}: no procedure '{word}' in process '{process}'{end}{shown}
-undeclared|any|doors: line {number}: no thread '{word}'{end}{shown}
-named|is process child|    '{word}' is a process{end}    declared:{names}{end}
-named|is thread spare|    '{word}' is a thread{end}    declared:{names}{end}
-named|is proc|    '{word}' is a procedure{end}    declared:{names}{end}
-named|any|    declared:{names}{end}
-declared|is child|doors: line {number}: '{word}' is declared in line {other}, and is to be in an earlier one{end}{shown}    the form: child NAME of PARENT, in a line after that of PARENT{end}
-declared|any|doors: line {number}: '{word}' is no child of process '{process}'{end}{shown}    line {other} declares it; what 'fork' begins is declared with 'child NAME of PARENT'{end}
-near|any|    did you mean '{near}'?{end}
-no-word|any|doors: line {number}: no line begins with '{word}'{end}{shown}
-lone-trace|any|    only 'doors check' takes a trace after the script, behind a line 'trace' with its line feed{end}
-brackets|any|    words stand between spaces, without brackets, commas and semicolons{end}
-since-2|any|doors: line {number}: '{word}' needs version 2 or a higher one: the first line 'doors script 2', 3 or 4{end}{shown}    the form: {form}{end}
-since-3|any|doors: line {number}: '{word}' needs version 3 or 4: the first line 'doors script 3' or 4{end}{shown}    the form: {form}{end}
-since-4|any|doors: line {number}: '{word}' needs version 4: the first line 'doors script 4'{end}{shown}    the form: {form}{end}
-in-block|any|doors: line {number}: '{word}' has no place in {opened}{end}{shown}    its 'end' is missing, and that of {body}{end}
-after-block|any|doors: line {number}: '{word}' has no place in {opened}{end}{shown}    its 'end' is missing, or that of a block in it{end}
-in-body|any|doors: line {number}: '{word}' has no place in {opened}{end}{shown}    its 'end' is missing{end}
-after-schedule|any|doors: line {number}: '{word}' has no place after a line 'schedule'{end}{shown}
-after-header after-budget in-process|is budget|doors: line {number}: '{word}' stands once, before the first process{end}{shown}
-after-header after-budget in-process|is end|doors: line {number}: '{word}' closes a thread, a procedure, a 'repeat' or an 'if', and none is open: a process and a spare have no 'end'{end}{shown}
-after-header after-budget in-process|is thread spare proc|doors: line {number}: '{word}' stands in a process, and none is open here{end}{shown}
-after-header after-budget in-process|any|doors: line {number}: '{word}' stands in a thread or a procedure, and none is open here{end}{shown}
-wanted|is after-header|    wanted here: budget, process{child} or schedule{end}
-wanted|is after-budget|    wanted here: process{child} or schedule{end}
-wanted|is in-process|    wanted here: thread, spare, proc, process{child} or schedule{end}
-wanted|is after-schedule|    after a line 'schedule' only more of them and comments may stand{end}
-wanted|any|    wanted here: a command, repeat, if or end{end}
-whole|is create|doors: line {number}: an attribute stands twice{end}    {line}{end}    the form: {form}{end}
-whole|is sendn|doors: line {number}: more than 16 ports{end}    {line}{end}    the form: {form}{end}
-whole|is call return|doors: line {number}: more than 32 descriptors after 'desc'{end}    {line}{end}    the form: {form}{end}
-whole|any|doors: line {number}: its operands are wrong{end}    {line}{end}    the form: {form}{end}
-operand|is missing|doors: line {number}: {operand} is missing
-operand|is range|doors: line {number}: '{word}' is out of range
-operand|is end after|doors: line {number}: '{word}' has no place here
-operand|any|doors: line {number}: '{word}' is no {operand}
-operand-form|is number|{end}{shown}    the form: {form}{end}    {operand} is a number from {range}{end}
-operand-form|is mark end|{end}{shown}    the form: {form}{end}
-operand-form|any|{end}{shown}    the form: {form}{end}    {meaning}{end}
-unreached|is serve|doors: warning: line {number}: this line is never reached: 'serve' stands in line {other}{end}    {line}{end}    a thread that serves runs procedures, and not the lines after 'serve'{end}
-unreached|is exit|doors: warning: line {number}: this line is never reached: 'exit' stands in line {other}{end}    {line}{end}
-unset|any|doors: warning: line {number}: no line of this body sets '{word}'{end}{shown}
-near-variable|any|    did you mean '${near}'?{end}
-line|is endif fi done|    a block ends with 'end'{end}
-line|is trace|    before a trace stands a line that is exactly 'trace', without spaces{end}
-line|is else|    there is no 'else': write a second 'if'{end}
-line|is wait|    to wait for a path: 'await PATH'; for calls: 'serve'{end}
-line|is sleep|    time goes by with 'advance N', from version 3 on; to wait for a path: 'await PATH'{end}
-line|is pause|    to wait for good: 'await never'{end}
-line|is set alias del who stat|    a line of a name table is DATA of 'ncd', as in: ncd VAR \"set KEY VALUE\"{end}
-line|is for while loop|    a loop is 'repeat N' .. 'end'{end}
-line|first \"|    a line begins with a command, and not with a string{end}
-line|first ;|    a comment begins with #{end}
-line|first {}|    there are no braces: threads, procedures, 'if' and 'repeat' end with a line 'end'{end}
-line|begins //|    a comment begins with #{end}
-line|begins /*|    a comment begins with #{end}
-line|begins --|    a comment begins with #{end}
-line|begins door_|    docs/FROM_C.md has the commands for functions of C{end}
-line|begins port_|    docs/FROM_C.md has the commands for functions of C{end}
-line|begins timer_|    docs/FROM_C.md has the commands for functions of C{end}
-line|begins pthread_|    docs/FROM_C.md has the commands for functions of C{end}
-line|has ();|
-line|has ABCDEFGHIJKLMNOPQRSTUVWXYZ|    words that begin lines have small letters{end}
-unclosed|any|: the string has no closing quote
-escaped|any|: in a string a backslash stands before \", \\ or xHH with two of 0-9 a-f
-string|first +|: '{rest}' follows the closing quote at once: a + stands between two spaces
-string|first ;|: '{rest}' follows the closing quote at once: a line has one command, and no ';'
-string|has \"|: '{rest}' follows the closing quote at once: a quote within a string is written \\\"
-string|any|: '{rest}' follows the closing quote at once, without a space
-name number value descriptor data condition word mark after end|first \"|: no string stands here
-name number value descriptor data condition word mark after end|first #|: a comment has a line of its own
-name number value descriptor data condition word mark after end|begins //|: a comment has a line of its own
-name number value descriptor data condition word mark after end|begins /*|: a comment has a line of its own
-name number value descriptor data condition word mark after end|first {}|: there are no braces: threads, procedures, 'if' and 'repeat' end with a line 'end'
-data|is +|: no piece of DATA stands before it
-name number value descriptor data condition word mark after end|is +|: a + stands between pieces of DATA, and in POLL without spaces, as in in+out
-name number value descriptor data condition word mark after end|ends ;|: lines have no ';' at their end
-name|first $|: a name stands here without $
-name|first 0123456789|: a name begins with a letter
-name|has ABCDEFGHIJKLMNOPQRSTUVWXYZ|: names have small letters
-name|long|: it has more than 16 bytes
-name|any|: it has other bytes than a to z, 0 to 9 and _
-number value|first -+|: numbers have no sign
-descriptor|first -|: numbers have no sign
-number value descriptor|begins 0x|: numbers are decimal
-number value|first $|: a number stands here, and no variable
-number value descriptor|zeros|: numbers have no leading zeros
-descriptor|name|: write ${word} for the descriptor in variable '{word}'
-data|has +|: a + stands between two spaces
-data|first $|
-data|begins fill:|
-data|any|: text stands in quotes, and a variable after $
-condition|is not error|: an 'if' asks for ok, yes, unref or one error, and there is no 'not'
-condition|first e|: names of errors have capitals
+byte|[\t|doors: line %n: a tab ('%w') in column %o%e%s    indent and separate words with spaces%e
+byte|=\r|doors: line %n: a carriage return ('%w') in column %o%e%s    lines end with a line feed alone: tr -d '\\r' takes carriage returns out%e
+byte|[\r|doors: line %n: a carriage return ('%w') in column %o%e%s    tr '\\r' '\\n' makes line feeds of carriage returns%e
+byte|=order-mark|doors: line %n: a byte above 0x7e ('%w') in column %o%e%s    where it is a byte order mark at the start of the file, save it without; in a string write \\xef%e
+byte|=quote|doors: line %n: a byte above 0x7e ('%w') in column %o%e%s    where it is a typographic quote, write \"; in a string such a byte is written \\xHH; elsewhere it has no place%e
+byte|=high|doors: line %n: a byte above 0x7e ('%w') in column %o%e%s    in a string such a byte is written \\xHH; elsewhere it has no place%e
+byte||doors: line %n: a control byte ('%w') in column %o%e%s    in a string such a byte is written \\xHH; elsewhere it has no place%e
+header|=empty|doors: line 1: the input is empty%e    the first line is exactly 'doors script 1', or 2, 3 or 4 in place of 1; comments come after it%e
+header|=spaced|doors: line 1: a space too many stands in '%l'%e    the first line is exactly 'doors script 1', or 2, 3 or 4 in place of 1; comments come after it%e
+header||doors: line 1: a script does not begin so%e    %l%e    the first line is exactly 'doors script 1', or 2, 3 or 4 in place of 1; comments come after it%e
+many|=process child|doors: line %n: a 65th process; a script has at most 64, children with them%e    %l%e
+many|=thread spare|doors: line %n: a 65th thread; a script has at most 64, spares with them%e    %l%e
+many|=proc|doors: line %n: a 65th procedure of its process, which has at most 64%e    %l%e
+many|=repeat if|doors: line %n: this would be the 9th block inside one another; 8 is the most%e    %l%e
+many||doors: line %n: a 33rd name of a variable in its body, which has at most 32%e    %l%e
+body||doors: line %n: '%w' in place of the first command of the 'repeat' in line %o%e%s    the first line in a 'repeat' is a command%e
+open|=in-block|doors: line %n: the text ends in '%x %y', which begins in line %o%e    %m lines 'end' are missing%e
+open|=after-block|doors: line %n: the text ends in '%x %y', which begins in line %o%e    its 'end' is missing, or that of a block in it%e
+open||doors: line %n: the text ends in '%x %y', which begins in line %o%e    its 'end' is missing%e
+twice|=process child|doors: line %n: the name '%w' stands in line %o already%e%s    names of processes and children are unique in the script%e
+twice|=thread spare|doors: line %n: the name '%w' stands in line %o already%e%s    names of threads and spares are unique in the script%e
+twice||doors: line %n: the name '%w' stands in line %o already%e%s    names of procedures are unique in their process%e
+undeclared|=child kill fork|doors: line %n: no process '%w'%e%s
+undeclared|=create|doors: line %n: no procedure '%w' in process '%p'%e%s
+undeclared||doors: line %n: no thread '%w'%e%s
+named|=process child|    '%w' is a process%e    declared:%d%e
+named|=thread spare|    '%w' is a thread%e    declared:%d%e
+named|=proc|    '%w' is a procedure%e    declared:%d%e
+named||    declared:%d%e
+declared|=child|doors: line %n: '%w' is declared in line %o, and is to be in an earlier one%e%s    the form: child NAME of PARENT, in a line after that of PARENT%e
+declared||doors: line %n: '%w' is no child of process '%p'%e%s    line %o declares it; what 'fork' begins is declared with 'child NAME of PARENT'%e
+near||    did you mean '%k'?%e
+no-word||doors: line %n: no line begins with '%w'%e%s
+lone||    only 'doors check' takes a trace after the script, behind a line 'trace' with its line feed%e
+brackets||    words stand between spaces, without brackets, commas and semicolons%e
+1|=child fork|doors: line %n: '%w' needs version 2 or a higher one: the first line 'doors script 2', 3 or 4%e%s    the form: %f%e
+1 2|=tcreate tset tdelete advance|doors: line %n: '%w' needs version 3 or 4: the first line 'doors script 3' or 4%e%s    the form: %f%e
+1 2 3|=ncd|doors: line %n: '%w' needs version 4: the first line 'doors script 4'%e%s    the form: %f%e
+in-block||doors: line %n: '%w' has no place in '%x %y', which begins in line %o%e%s    its 'end' is missing, and that of '%i %j', which begins in line %t%e
+after-block||doors: line %n: '%w' has no place in '%x %y', which begins in line %o%e%s    its 'end' is missing, or that of a block in it%e
+in-body||doors: line %n: '%w' has no place in '%x %y', which begins in line %o%e%s    its 'end' is missing%e
+after-schedule||doors: line %n: '%w' has no place after a line 'schedule'%e%s
+after-header after-budget in-process|=budget|doors: line %n: '%w' stands once, before the first process%e%s
+after-header after-budget in-process|=end|doors: line %n: '%w' closes a thread, a procedure, a 'repeat' or an 'if', and none is open: a process and a spare have no 'end'%e%s
+after-header after-budget in-process|=thread spare proc|doors: line %n: '%w' stands in a process, and none is open here%e%s
+after-header after-budget in-process||doors: line %n: '%w' stands in a thread or a procedure, and none is open here%e%s
+wanted|=after-header|    wanted here: budget, process, child or schedule%e
+wanted-1|=after-header|    wanted here: budget, process or schedule%e
+wanted|=after-budget|    wanted here: process, child or schedule%e
+wanted-1|=after-budget|    wanted here: process or schedule%e
+wanted|=in-process|    wanted here: thread, spare, proc, process, child or schedule%e
+wanted-1|=in-process|    wanted here: thread, spare, proc, process or schedule%e
+wanted wanted-1|=after-schedule|    after a line 'schedule' only more of them and comments may stand%e
+wanted wanted-1||    wanted here: a command, repeat, if or end%e
+whole|=create|doors: line %n: an attribute stands twice%e    %l%e    the form: %f%e
+whole|=sendn|doors: line %n: more than 16 ports%e    %l%e    the form: %f%e
+whole|=call return|doors: line %n: more than 32 descriptors after 'desc'%e    %l%e    the form: %f%e
+whole||doors: line %n: its operands are wrong%e    %l%e    the form: %f%e
+missing||doors: line %n: %a is missing
+range||doors: line %n: '%w' is out of range
+operand|=end after|doors: line %n: '%w' has no place here
+operand||doors: line %n: '%w' is no %a
+operand-form|=number|%e%s    the form: %f%e    %a is a number from %r to %q%e
+operand-form|=mark end|%e%s    the form: %f%e
+operand-form||%e%s    the form: %f%e    %u%e
+unreached|=serve|doors: warning: line %n: this line is never reached: 'serve' stands in line %o%e    %l%e    a thread that serves runs procedures, and not the lines after 'serve'%e
+unreached|=exit|doors: warning: line %n: this line is never reached: 'exit' stands in line %o%e    %l%e
+unset||doors: warning: line %n: no line of this body sets '%k'%e%s
+near-variable||    did you mean '$%k'?%e
+line|=endif fi done|    a block ends with 'end'%e
+line|=trace|    before a trace stands a line that is exactly 'trace', without spaces%e
+line|=else|    there is no 'else': write a second 'if'%e
+line|=wait|    to wait for a path: 'await PATH'; for calls: 'serve'%e
+line|=sleep|    time goes by with 'advance N', from version 3 on; to wait for a path: 'await PATH'%e
+line|=pause|    to wait for good: 'await never'%e
+line|=set alias del who stat|    a line of a name table is DATA of 'ncd', as in: ncd VAR \"set KEY VALUE\"%e
+line|=for while loop|    a loop is 'repeat N' .. 'end'%e
+line|[\"|    a line begins with a command, and not with a string%e
+line|[;|    a comment begins with #%e
+line|[{}|    there are no braces: threads, procedures, 'if' and 'repeat' end with a line 'end'%e
+line|^//|    a comment begins with #%e
+line|^/*|    a comment begins with #%e
+line|^--|    a comment begins with #%e
+line|^door_|    docs/FROM_C.md has the commands for functions of C%e
+line|^port_|    docs/FROM_C.md has the commands for functions of C%e
+line|^timer_|    docs/FROM_C.md has the commands for functions of C%e
+line|^pthread_|    docs/FROM_C.md has the commands for functions of C%e
+line|*();|
+line|*ABCDEFGHIJKLMNOPQRSTUVWXYZ|    words that begin lines have small letters%e
+unclosed||: the string has no closing quote
+escaped||: in a string a backslash stands before \", \\ or xHH with two of 0-9 a-f
+string|[+|: '%k' follows the closing quote at once: a + stands between two spaces
+string|[;|: '%k' follows the closing quote at once: a line has one command, and no ';'
+string|*\"|: '%k' follows the closing quote at once: a quote within a string is written \\\"
+string||: '%k' follows the closing quote at once, without a space
+name number value descriptor data condition word mark after end|[\"|: no string stands here
+name number value descriptor data condition word mark after end|[#|: a comment has a line of its own
+name number value descriptor data condition word mark after end|^//|: a comment has a line of its own
+name number value descriptor data condition word mark after end|^/*|: a comment has a line of its own
+name number value descriptor data condition word mark after end|[{}|: there are no braces: threads, procedures, 'if' and 'repeat' end with a line 'end'
+data|=+|: no piece of DATA stands before it
+name number value descriptor data condition word mark after end|=+|: a + stands between pieces of DATA, and in POLL without spaces, as in in+out
+name number value descriptor data condition word mark after end|$;|: lines have no ';' at their end
+name|[$|: a name stands here without $
+name|[0123456789|: a name begins with a letter
+name|*ABCDEFGHIJKLMNOPQRSTUVWXYZ|: names have small letters
+name|+|: it has more than 16 bytes
+name||: it has other bytes than a to z, 0 to 9 and _
+number value|[-+|: numbers have no sign
+descriptor|[-|: numbers have no sign
+number value descriptor|^0x|: numbers are decimal
+number value|[$|: a number stands here, and no variable
+number value descriptor|0|: numbers have no leading zeros
+descriptor|@|: write $%w for the descriptor in variable '%w'
+data|*+|: a + stands between two spaces
+data|[$|
+data|^fill:|
+data||: text stands in quotes, and a variable after $
+condition|=not error|: an 'if' asks for ok, yes, unref or one error, and there is no 'not'
+condition|[e|: names of errors have capitals
 ";
 
 fn rows() -> &'static [u8] {
     SAID.as_bytes()
 }
 
-/// What is said in a case: a template, without words where nothing is said.
-pub(crate) fn said_of(key: Key<'_>) -> &'static [u8] {
+/// What is said by a row, without words where nothing is.
+pub(crate) fn said_of(case: &Case<'_, '_>, key: Key<'_>) -> &'static [u8] {
+    let topic = match key.topic {
+        Topic::Class => told_of(case.operand).class,
+        Topic::Place => case.at.place_word(),
+        Topic::Version => case.at.text.get(13..14).unwrap_or(&[]),
+        topic => line_at(TOPICS.as_bytes(), topic as u64),
+    };
     let mut rest = rows();
     for _ in 0..rest.len() {
         let Some((row, later)) = next_line(rest) else {
@@ -143,7 +225,7 @@ pub(crate) fn said_of(key: Key<'_>) -> &'static [u8] {
         };
         let (of, row) = columns(row);
         let (test, said) = columns(row);
-        if is_listed(of, key.of) && is_passed(test, key.word) {
+        if is_listed(of, topic) && is_passed(test, key.word) {
             return said;
         }
         rest = later;

@@ -1,46 +1,48 @@
 //! Where the turns of a schedule stand in a script.
 
+use crate::form::{Role, role_of_line};
 use crate::outline::Lines;
-use crate::words::Words;
+use crate::words::{Found, found_at};
 
-/// Where a turn stands: the number of its line, and the place of its word there, from 0.
+/// A turn: its line, the number of that, and its word there.
 #[derive(Clone, Copy)]
-pub(crate) struct Turn {
-    pub line: u64,
-    pub place: usize,
+pub(crate) struct Turn<'a> {
+    pub number: u64,
+    pub line: &'a [u8],
+    pub found: Found<'a>,
 }
 
-/// How many turns a line has.
-fn turns_in(line: &[u8]) -> usize {
-    let mut words = Words::new(line);
-    let mut count: usize = 0;
-    match words.next() {
-        Some(found) if found.word == b"schedule".as_slice() => {}
-        _ => return 0,
-    }
-    for _ in line {
-        if words.next().is_none() {
-            break;
-        }
-        count = count.saturating_add(1);
-    }
-    count
-}
-
-/// Where the turn of a number stands, from 1.
-pub(crate) fn turn_of(text: &[u8], number: u64) -> Option<Turn> {
-    let mut left = number as usize;
+/// The turn of a number, from 1.
+pub(crate) fn turn_of(text: &[u8], turn: u64) -> Option<Turn<'_>> {
+    let mut left = turn;
+    let mut number = 0;
+    let mut line: &[u8] = &[];
     let mut lines = Lines::new(text);
+    let mut found = found_at(line, 0);
+    // each word and each line feed is a byte of the text
     for _ in text {
-        let (line_number, line) = lines.next()?;
-        let count = turns_in(line);
-        if left <= count {
+        found = found_at(found.rest, 0);
+        if found.word.is_empty() {
+            let Some((next_number, next_line)) = lines.next() else {
+                return None;
+            };
+            number = next_number;
+            line = next_line;
+            // the line's first word is no turn
+            found = match role_of_line(line) {
+                Role::Schedule => found_at(line, 0),
+                _ => found_at(&[], 0),
+            };
+            continue;
+        }
+        if left <= 1 {
             return Some(Turn {
-                line: line_number,
-                place: left,
+                number,
+                line,
+                found,
             });
         }
-        left = left.saturating_sub(count);
+        left = left.saturating_sub(1);
     }
     None
 }

@@ -2,34 +2,19 @@
 
 use crate::case::Case;
 use crate::form::Form;
-use crate::operand::{Operand, after_mark, is_wrong};
+use crate::operand::{Operand, after_mark, reading_of};
 use crate::report::Report;
-use crate::words::{Words, found_at};
+use crate::words::found_at;
+use script_text::number::Number;
 use std::alloc::Global;
 
-/// The operand that the line has in any case at a place, from 0, or `End`.
-fn fixed(form: &Form, place: usize) -> Operand {
-    if place < form.operands.len() {
-        form.operands[place]
-    } else {
-        Operand::End
-    }
-}
-
-/// The operand that is wanted at a place: `before` was wanted at the place before it, where this word stands.
-fn wanted(form: &Form, place: usize, before: Operand, word: &[u8]) -> Operand {
-    let operand = fixed(form, place);
-    if operand != Operand::End {
-        return operand;
-    }
-    if let Some(next) = after_mark(before, word) {
-        return next;
-    }
-    match (before, form.tail) {
+/// What may follow an operand, where the line has no other operand in any case.
+fn after(operand: Operand, tail: Operand) -> Operand {
+    match (operand, tail) {
         (Operand::Rsize | Operand::Limit | Operand::End, _) => Operand::End,
         (Operand::Pass | Operand::PassOrRsize, Operand::AfterCalled) => Operand::PassOrRsize,
         (Operand::Pass | Operand::NextPass, _) => Operand::NextPass,
-        (_, tail) => tail,
+        _ => tail,
     }
 }
 
@@ -43,23 +28,39 @@ pub(crate) fn find_wrong_word(
     is_range: bool,
 ) -> bool {
     let line = case.at.line;
-    let mut words = Words::new(line);
-    let _head = words.next();
-    case.operand = wanted(form, 0, form.tail, &[]);
+    case.found = found_at(line, 0);
+    let mut next = form.tail;
     for place in 0..line.len() {
-        let Some(found) = words.next() else {
-            case.found = found_at(line, line.len());
-            return fixed(form, place) != Operand::End
-                || matches!(
-                    case.operand,
+        let mut is_needed = true;
+        case.operand = match form.operands.get(place) {
+            None | Some(Operand::End) => {
+                is_needed = matches!(
+                    next,
                     Operand::Piece | Operand::Pass | Operand::Rsize | Operand::Limit
                 );
+                next
+            }
+            Some(operand) => *operand,
         };
-        case.found = found;
-        if is_wrong(alloc, report, case.operand, found.word, is_range) {
-            return true;
+        case.found = found_at(case.found.rest, 0);
+        let word = case.found.word;
+        if word.is_empty() {
+            return is_needed;
         }
-        case.operand = wanted(form, place.saturating_add(1), case.operand, found.word);
+        next = match after_mark(case.operand, word) {
+            Some(next) => next,
+            None => {
+                let is_wrong = match reading_of(alloc, report, case.operand, word) {
+                    Number::Found(_) => false,
+                    Number::OutOfRange => is_range,
+                    Number::NoNumber => !is_range,
+                };
+                if is_wrong {
+                    return true;
+                }
+                after(case.operand, form.tail)
+            }
+        };
     }
     false
 }

@@ -1,249 +1,151 @@
 //! Why a thread cannot take a turn, as a sentence that begins with its name.
 
-use crate::acts::{Act, first_of, last_of, pool_of};
-use crate::messages::{Said, words_of};
+use crate::acts::Act;
+use crate::messages::{Message, Said};
 use crate::near::is_near;
 use crate::outline::Lines;
-use crate::report::Report;
+use crate::rule::is_listed;
 use crate::run::{Run, Thread};
 use crate::words::found_at;
 use dk_base::event::What;
 
-/// Whether a thread waits.
-#[derive(Clone, Copy)]
-pub(crate) enum Wait {
-    /// It has ended, or has not begun.
-    No,
-    /// For calls.
-    Idle,
-    Yes,
-}
-
-/// What is said of a thread, and what stands in that.
-#[derive(Clone, Copy)]
-pub(crate) struct Standing<'a> {
-    pub wait: Wait,
-    name: &'a [u8],
-    said: Said,
-    more: Said,
-    /// The event since which it waits, or that ended it: a `#` in the words.
-    event: u64,
-    /// The number of the call or descriptor that it waits at: a `%`.
-    number: u64,
-    /// Another event, a line, or how many events of a port it wants: a `&`.
-    other: u64,
-    /// A path, a process or another thread: a `~`.
-    word: &'a [u8],
-    /// An error, or another path: a `@`.
-    by: &'a [u8],
-}
-
-impl<'a> Standing<'a> {
-    /// How a thread stands.
-    pub(crate) fn of(run: &Run<'_, 'a>, thread: &Thread<'a>) -> Self {
-        let mut standing = Standing {
-            wait: Wait::No,
-            name: thread.name,
-            said: Said::Nothing,
-            more: Said::Nothing,
-            event: 0,
-            number: 0,
-            other: 0,
-            word: &[],
-            by: &[],
+/// Which line attaches a path that no event attached.
+fn set_attached<'a>(told: &mut Message<'a>, text: &'a [u8]) {
+    told.said = Said::NotAttached;
+    let mut lines = Lines::new(text);
+    for _ in text {
+        let Some((number, line)) = lines.next() else {
+            break;
         };
-        match last_of(run.acts, thread.number) {
-            Some(last) => standing.set_after(run, thread, last),
-            None => standing.set_new(run, thread),
+        if !is_listed(b"attach", found_at(line, 0).word) {
+            continue;
         }
-        standing
+        let path = found_at(line, 2).word;
+        if path == told.word {
+            told.said = Said::AttachToCome;
+            told.other = number;
+        } else if !matches!(told.said, Said::AttachToCome) && is_near(path, told.word) {
+            told.said = Said::NearlyAttached;
+            told.by = path;
+        }
     }
+}
 
-    /// A thread without an act.
-    fn set_new(&mut self, run: &Run<'_, 'a>, thread: &Thread<'a>) {
-        match run.first_kill(thread) {
-            Some(kill) => {
-                self.said = Said::Killed;
-                self.event = kill.event;
+/// Why nothing is found at the path of this number.
+fn set_path<'a>(told: &mut Message<'a>, run: &Run<'_, 'a>) {
+    let Some(path) = run.paths.at(told.number as usize) else {
+        return;
+    };
+    told.word = path;
+    told.said = Said::NotAttached;
+    for act in run.acts {
+        if act.number != told.number {
+            continue;
+        }
+        match act.what {
+            What::Detach if act.error.is_empty() => {
+                told.said = Said::Detached;
+                told.other = act.event;
+                return;
             }
-            None if thread.is_spare => self.said = Said::NotStarted,
-            None => self.said = Said::NotForked,
-        }
-    }
-
-    /// A thread after its last act.
-    fn set_after(&mut self, run: &Run<'_, 'a>, thread: &Thread<'a>, last: &Act) {
-        self.event = last.event;
-        if last.what == What::Exit {
-            self.said = Said::Exited;
-            return;
-        }
-        match first_of(run.acts, What::Kill, thread.process, last.event) {
-            Some(kill) if kill.event == last.event => self.said = Said::KilledItself,
-            Some(kill) => {
-                self.said = Said::Killed;
-                self.event = kill.event;
+            What::Attach if matches!(told.said, Said::NotAttached) => {
+                told.said = match act.error.is_empty() {
+                    true => Said::ForPath,
+                    false => Said::AttachFailed,
+                };
+                told.by = act.error.as_bytes();
+                told.other = act.event;
             }
-            None => self.set_wait(run, thread, last),
-        }
-    }
-
-    /// A thread that waits since an act.
-    fn set_wait(&mut self, run: &Run<'_, 'a>, thread: &Thread<'a>, wait: &Act) {
-        self.wait = Wait::Yes;
-        self.said = Said::Waits;
-        self.number = wait.number;
-        match wait.what {
-            What::Call => self.set_call(run),
-            What::Return | What::Accept => self.set_pool(run, thread),
-            What::Await => self.set_path(run),
-            What::Get | What::GetN => self.set_port(wait.wanted),
             _ => {}
         }
     }
-
-    /// It waits in a call.
-    fn set_call(&mut self, run: &Run<'_, 'a>) {
-        self.said = Said::InCall;
-        self.more = Said::NotAccepted;
-        if let Some(act) = first_of(run.acts, What::Accept, self.number, 0) {
-            self.more = Said::Accepted;
-            self.word = run.name(act.thread);
-            self.other = act.event;
-        }
+    if let Said::NotAttached = told.said {
+        set_attached(told, run.text);
     }
+}
 
-    /// It waits for calls.
-    fn set_pool(&mut self, run: &Run<'_, 'a>, thread: &Thread<'a>) {
-        self.wait = Wait::Idle;
-        self.word = thread.process_name;
-        self.more = pool_of(run.acts, thread.number);
-    }
-
-    /// It waits at a port.
-    fn set_port(&mut self, wanted: u64) {
-        self.other = wanted;
-        self.more = if wanted > 1 {
-            Said::AtPortForMany
-        } else {
-            Said::AtPort
-        };
-    }
-
-    /// It waits for a path.
-    fn set_path(&mut self, run: &Run<'_, 'a>) {
-        match run.declared.paths.at(self.number as usize) {
-            Some(path) if !path.is_empty() => {
-                self.said = Said::ForPath;
-                self.word = path;
-                self.set_missing(run);
+/// How a thread stands after an act of its own. `pool` tells for which calls it waits where it waits for some.
+fn said_after(act: &Act, process: u64, pool: &mut Said) -> Said {
+    let is_done = act.error.is_empty();
+    match act.what {
+        What::Bind if is_done => *pool = Said::OfPrivateDoor,
+        What::Unbind if is_done => *pool = Said::OfProcess,
+        What::Woken if !is_done => *pool = Said::OfProcess,
+        What::Return | What::Accept => {
+            // its descriptors were wrong, or its door was valid no more
+            if !is_done && matches!(*pool, Said::OfPrivateDoor) {
+                *pool = Said::ForCalls;
             }
-            _ => self.said = Said::ForSomePath,
+            return *pool;
         }
+        What::Call => return Said::NotAccepted,
+        What::Await => return Said::ForSomePath,
+        What::Get | What::GetN if act.wanted > 1 => return Said::AtPortForMany,
+        What::Get | What::GetN => return Said::AtPort,
+        What::Exit => return Said::Exited,
+        What::Kill if is_done && act.number == process => return Said::KilledItself,
+        _ => {}
     }
+    Said::Waits
+}
 
-    /// Why nothing is found at the path.
-    fn set_missing(&mut self, run: &Run<'_, 'a>) {
-        if let Some(act) = first_of(run.acts, What::Detach, self.number, 0) {
-            self.more = Said::Detached;
-            self.other = act.event;
-        } else if let Some(act) = first_of(run.acts, What::Attach, self.number, 0) {
-            self.set_attach(act);
-        } else {
-            self.set_attached(run.text);
-        }
-    }
-
-    /// An attach of the path, which is told where it failed.
-    fn set_attach(&mut self, act: &Act) {
-        if !act.error.is_empty() {
-            self.more = Said::AttachFailed;
-            self.by = act.error.as_bytes();
-            self.other = act.event;
-        }
-    }
-
-    /// Which line attaches the path, that no event attached.
-    fn set_attached(&mut self, text: &'a [u8]) {
-        self.more = Said::NotAttached;
-        let mut lines = Lines::new(text);
-        for _ in text {
-            let Some((number, line)) = lines.next() else {
+/// How a thread stands after its acts, and those of others that let it begin, ended it or took its call.
+pub(crate) fn standing_of<'a>(run: &Run<'_, 'a>, thread: &Thread<'a>) -> Message<'a> {
+    let mut said = if thread.is_spare {
+        Said::NotStarted
+    } else {
+        Said::NotForked
+    };
+    let mut event = 0;
+    let mut number = 0;
+    let mut other = 0;
+    let mut server = 0;
+    let mut pool = Said::OfProcess;
+    let mut has_begun = !thread.is_in_child;
+    for act in run.acts {
+        let is_done = act.error.is_empty();
+        if act.thread.0 == thread.number.0 {
+            event = act.event;
+            number = act.number;
+            other = act.wanted;
+            said = said_after(act, thread.process, &mut pool);
+            if matches!(said, Said::Exited | Said::KilledItself) {
                 break;
-            };
-            if found_at(line, 0).word == b"attach".as_slice() {
-                self.add_attach(number, found_at(line, 2).word);
+            }
+            continue;
+        }
+        match act.what {
+            What::Fork if act.number == thread.process => has_begun = true,
+            What::Kill if is_done && has_begun && act.number == thread.process => {
+                event = act.event;
+                said = Said::Killed;
+                break;
+            }
+            What::Accept if act.number == number && matches!(said, Said::NotAccepted) => {
+                said = Said::Accepted;
+                other = act.event;
+                server = act.thread.0;
+            }
+            _ => {}
+        }
+    }
+    let mut told = Message {
+        said,
+        name: thread.name,
+        word: thread.process_name,
+        by: &[],
+        event,
+        number,
+        other,
+    };
+    match said {
+        Said::Accepted => {
+            if let Some(server) = run.threads.get((server as usize).saturating_sub(1)) {
+                told.by = server.name;
             }
         }
+        Said::ForSomePath => set_path(&mut told, run),
+        _ => {}
     }
-
-    /// A line that attaches a path.
-    fn add_attach(&mut self, number: u64, path: &'a [u8]) {
-        if path == self.word {
-            self.more = Said::AttachToCome;
-            self.other = number;
-        } else if self.other == 0 && is_near(path, self.word) {
-            self.more = Said::NearlyAttached;
-            self.by = path;
-        }
-    }
-
-    /// Whether it waits in a call that no thread has accepted.
-    pub(crate) fn is_queued(&self) -> bool {
-        matches!(self.more, Said::NotAccepted)
-    }
-
-    /// A byte of a template, or what stands for it.
-    fn part(&self, report: &mut Report, byte: u8) {
-        match byte {
-            b'~' => report.quoted(self.word),
-            b'@' => report.word(self.by),
-            b'#' => report.number(self.event),
-            b'%' => report.number(self.number),
-            b'&' => report.number(self.other),
-            _ => report.put(&[byte]),
-        }
-    }
-
-    fn tell_words(&self, report: &mut Report, said: Said) {
-        for byte in words_of(said) {
-            self.part(report, *byte);
-        }
-    }
-
-    /// The sentence, with no line feed.
-    pub(crate) fn tell(&self, report: &mut Report) {
-        report.quoted(self.name);
-        self.tell_words(report, self.said);
-        self.tell_words(report, self.more);
-    }
-
-    /// The same as a line that begins so.
-    pub(crate) fn tell_line(&self, report: &mut Report, start: &str) {
-        report.say(start);
-        self.tell(report);
-        report.end();
-    }
-}
-
-/// Why a thread of this name cannot take a turn.
-pub(crate) fn tell_named(report: &mut Report, run: &Run<'_, '_>, name: &[u8]) {
-    for thread in run.threads() {
-        if thread.name == name {
-            return Standing::of(run, thread).tell(report);
-        }
-    }
-    report.tell(words_of(Said::NoThread), name, 0);
-}
-
-/// The threads that can take a turn, each after a space, and the end of the line.
-pub(crate) fn tell_runnable(report: &mut Report, run: &Run<'_, '_>) {
-    let mut end = " none\n";
-    for thread in run.threads() {
-        if thread.is_runnable {
-            report.tell(b" @", thread.name, 0);
-            end = "\n";
-        }
-    }
-    report.say(end);
+    told
 }

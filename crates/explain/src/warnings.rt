@@ -1,34 +1,23 @@
 //! Warnings on scripts: variables that nothing sets, and lines that are never reached.
 
 use crate::case::{Case, Key};
-use crate::form::{Role, form_of_line};
+use crate::form::{Role, form_of};
 use crate::names::Names;
 use crate::operand::Operand;
 use crate::outline::{Place, Walk, line_at};
 use crate::report::Report;
-use crate::words::{Found, Words, first_word, found_at};
+use crate::said::Topic;
+use crate::words::found_at;
 use script_text::parts::{part_before_last, parts_at};
 use std::alloc::Global;
 
 /// As many warnings are written at most.
 const WARNINGS_MAX: u64 = 12;
 
-/// The variable that a word reads.
-fn variable_read(word: &[u8]) -> Option<&[u8]> {
-    let Some(name) = word.strip_prefix(b"$") else {
-        return None;
-    };
-    let name = part_before_last(b'!', name).unwrap_or(name);
-    match parts_at(b'.', name) {
-        Some((name, _)) => Some(name),
-        None => Some(name),
-    }
-}
-
 /// Whether a line of the text begins with `bind`.
 fn has_bind(text: &[u8]) -> bool {
     let mut walk = Walk::new(text);
-    for _ in 0..text.len() {
+    for _ in text {
         if !walk.next() {
             break;
         }
@@ -54,11 +43,11 @@ fn begin<'a>(report: &mut Report, names: &mut Names<'a>, first: &Walk<'a>) {
         add_name(report, names, b"cookie");
     }
     let mut walk = *first;
-    for _ in 0..u64::MAX {
+    for _ in first.text {
         if !walk.next() || !matches!(walk.place, Place::Body) {
             break;
         }
-        let Some(form) = form_of_line(walk.line) else {
+        let Some(form) = form_of(walk.line, None) else {
             continue;
         };
         if let Operand::Var = form.operands[0] {
@@ -70,114 +59,84 @@ fn begin<'a>(report: &mut Report, names: &mut Names<'a>, first: &Walk<'a>) {
     }
 }
 
-/// What is known of the lines of the body that is read, and how many warnings there were.
-#[derive(Clone, Copy)]
-struct Progress {
-    /// Whether some thread may be bound to a door, whose `serve` may then end.
-    binds: bool,
-    /// The line of the body after which no other is reached, 0 where there is none.
-    last: u64,
-    warnings: u64,
-}
-
-impl Progress {
-    /// Whether one more warning is written, which is then counted.
-    fn takes_warning(&mut self) -> bool {
-        let takes = self.warnings < WARNINGS_MAX;
-        self.warnings = self.warnings.saturating_add(1);
-        takes
-    }
-
-    /// A line of a body, but for what it reads.
-    fn add(&mut self, report: &mut Report, walk: &Walk<'_>) {
-        if self.last != 0 && !matches!(walk.role, Role::End) {
-            if self.takes_warning() {
-                let mut case = Case::new(walk, b"unreached");
-                case.other = self.last;
-                case.said = Key {
-                    of: b"unreached",
-                    word: first_word(line_at(walk.text, self.last)).word,
-                };
-                case.tell(report);
-            }
-            self.last = 0;
-        }
-        let is_last = match walk.role {
-            Role::Serve => !self.binds,
-            Role::Exit => true,
-            _ => false,
-        };
-        if is_last && walk.depth == 0 {
-            self.last = walk.number;
-        }
-    }
-}
-
-/// Warns of each variable of a line that nothing sets, of each once in a body.
-fn warn_read<'a>(
-    report: &mut Report,
-    progress: &mut Progress,
-    names: &mut Names<'a>,
-    walk: &Walk<'a>,
-) {
-    let mut words = Words::new(walk.line);
-    for _ in 0..walk.line.len() {
-        let Some(found) = words.next() else {
-            break;
-        };
-        let Some(word) = variable_read(found.word) else {
+/// Warns of each variable of a line that nothing sets, of each once in a body. How many more warnings may be written.
+fn warn_read<'a>(report: &mut Report, names: &mut Names<'a>, walk: &Walk<'a>, most: u64) -> u64 {
+    let mut left = most;
+    let mut found = found_at(walk.line, 0);
+    for _ in walk.line {
+        found = found_at(found.rest, 0);
+        let Some(word) = found.word.strip_prefix(b"$") else {
             continue;
         };
-        if names.has(word) || !progress.takes_warning() {
+        let word = part_before_last(b'!', word).unwrap_or(word);
+        let word = match parts_at(b'.', word) {
+            Some((word, _)) => word,
+            None => word,
+        };
+        if left == 0 || names.has(word) {
             continue;
         }
-        let mut case = Case::new(walk, b"unset");
-        case.found = Found { word, ..found };
+        left = left.saturating_sub(1);
+        let case = &mut Case::new(walk, Topic::Unset);
+        case.found = found;
+        case.said.word = word;
         if let Some(near) = names.near(word) {
             case.note = Key {
-                of: b"near-variable",
+                topic: Topic::NearVariable,
                 word: near,
             };
         }
         case.tell(report);
         add_name(report, names, word);
     }
+    left
 }
 
-/// A line of the script.
-fn warn_line<'a>(
-    report: &mut Report,
-    progress: &mut Progress,
-    names: &mut Names<'a>,
-    walk: &Walk<'a>,
-) {
-    match (walk.place, walk.role) {
-        (Place::Body, _) if first_word(walk.line).word.is_empty() => {}
-        (Place::Body, _) => {
-            progress.add(report, walk);
-            warn_read(report, progress, names, walk);
-        }
-        (_, Role::Thread | Role::Proc) => {
-            progress.last = 0;
-            begin(report, names, walk);
-        }
-        _ => {}
-    }
+/// Warns of a line that is never reached, since the line of another number ends the thread.
+fn warn_unreached(report: &mut Report, walk: &Walk<'_>, last: u64) {
+    let case = &mut Case::new(walk, Topic::Unreached);
+    case.other = last;
+    case.said.word = found_at(line_at(walk.text, last), 0).word;
+    case.tell(report);
 }
 
 /// The warnings on a script.
 pub fn warn(alloc: Global, report: &mut Report, text: &[u8]) {
-    let mut progress = Progress {
-        binds: has_bind(text),
-        last: 0,
-        warnings: 0,
-    };
+    // some thread may be bound to a door, whose `serve` may then end
+    let binds = has_bind(text);
+    // the line of the body after which no other is reached, 0 where there is none
+    let mut last: u64 = 0;
+    let mut left = WARNINGS_MAX;
     let mut names = Names::new(alloc);
     let mut walk = Walk::new(text);
-    for _ in 0..text.len() {
+    for _ in text {
         if !walk.next() {
             break;
         }
-        warn_line(report, &mut progress, &mut names, &walk);
+        if !matches!(walk.place, Place::Body) {
+            if let Role::Thread | Role::Proc = walk.role {
+                last = 0;
+                begin(report, &mut names, &walk);
+            }
+            continue;
+        }
+        match walk.role {
+            Role::Unknown => continue,
+            Role::End => {}
+            _ if last != 0 => {
+                if left > 0 {
+                    left = left.saturating_sub(1);
+                    warn_unreached(report, &walk, last);
+                }
+                last = 0;
+            }
+            _ => {}
+        }
+        match walk.role {
+            Role::Exit if walk.depth == 0 => last = walk.number,
+            Role::Serve if walk.depth == 0 && !binds => last = walk.number,
+            _ => {}
+        }
+        left = warn_read(report, &mut names, &walk, left);
     }
 }
