@@ -1,59 +1,58 @@
 //! A run that is taken again by the lines of its trace, for what is said of it on the error stream.
 
 use dk_base::error::NoMemory;
-use dk_base::number::Tid;
-use explain::acts::{Act, Subject};
+use explain::acts::Subject;
 use explain::player::Player;
+use explain::run::Run;
 use script_lang::parse::parse;
 use std::alloc::Global;
 use sys_run::sys::Sys;
 use trace_check::parts;
 use trace_text::thread_of;
 
-/// A run of the kernel that `play` runs.
-#[derive(Drop)]
-pub(crate) struct KernelPlayer {
-    sys: Sys,
-}
+/// The kernel that `play` runs.
+pub(crate) struct KernelPlayer;
 
 impl Player for KernelPlayer {
     fn parts(input: &[u8]) -> (&[u8], Option<&[u8]>) {
         parts(input)
     }
 
-    fn start(alloc: Global, text: &[u8]) -> Option<Self> {
+    fn play(alloc: Global, text: &[u8], run: &mut Run<'_>) -> Result<(), NoMemory> {
         if text.len() >= 4_000_000_000 {
-            return None;
+            return Err(NoMemory);
         }
         match parse(alloc, text) {
             Ok(script) => match Sys::new(alloc, script) {
-                Ok(sys) => Some(KernelPlayer { sys }),
-                Err(_) => None,
+                Ok(mut sys) => follow(&mut sys, run),
+                Err(error) => Err(error),
             },
-            Err(_) => None,
+            Err(_) => Err(NoMemory),
         }
     }
+}
 
-    fn take(&mut self, line: &[u8]) -> Result<Option<Act>, NoMemory> {
-        let sys = &mut self.sys;
-        let thread = match thread_of(sys.script(), line) {
+/// Takes the turns of the lines of a run, and tells which of its threads can take a turn then.
+fn follow(sys: &mut Sys, run: &mut Run<'_>) -> Result<(), NoMemory> {
+    for _ in 0..sys.script().budget() {
+        // no thread has a turn in a line without bytes
+        let thread = match thread_of(sys.script(), run.next_line()) {
             Some(thread) if sys.events() < sys.script().budget() && sys.runnable(thread) => thread,
-            _ => return Ok(None),
+            _ => break,
         };
-        let subject = match sys.request(thread) {
-            Ok(request) => Subject::of(request),
-            Err(error) => return Err(error),
+        let Ok(request) = sys.request(thread) else {
+            return Err(NoMemory);
         };
-        match sys.step(thread) {
-            Ok(_) => Ok(match sys.journal().last() {
-                Some(event) => Some(Act::of(event, subject)),
-                None => None,
-            }),
-            Err(error) => Err(error),
+        let subject = Subject::of(request);
+        if sys.step(thread).is_err() {
+            return Err(NoMemory);
+        }
+        if let Some(event) = sys.journal().last() {
+            run.add(event, subject)?;
         }
     }
-
-    fn is_runnable(&self, thread: Tid) -> bool {
-        self.sys.runnable(thread)
+    for thread in run.threads.as_mut_slice() {
+        thread.is_runnable = sys.runnable(thread.number);
     }
+    Ok(())
 }

@@ -1,13 +1,35 @@
 //! What the threads of a run did, as plain values.
 
-use dk_base::answer::Answer;
-use dk_base::event::{Event, What};
+use dk_base::event::What;
 use dk_base::number::Tid;
 use dk_base::request::Request;
 
+/// What a request is about: the number of a process, path or port, and how many events of a port it wants.
+#[derive(Clone, Copy)]
+pub struct Subject {
+    pub(crate) number: u32,
+    pub(crate) wanted: u32,
+}
+
+impl Subject {
+    /// Takes the request, so that no holder of a whole run drops one.
+    pub fn of(request: Request) -> Self {
+        let (number, wanted) = match &request {
+            Request::Kill { process } => (process.0, 0),
+            Request::Attach { path, .. } | Request::Detach { path } | Request::Await { path } => {
+                (path.0, 0)
+            }
+            Request::Get { port, .. } => (port.0, 1),
+            Request::GetN { port, nget, .. } => (port.0, *nget),
+            _ => (0, 0),
+        };
+        Subject { number, wanted }
+    }
+}
+
 /// What a thread did at an event. That it took a call is an accept.
 #[derive(Clone, Copy)]
-pub struct Act {
+pub(crate) struct Act {
     pub event: u64,
     pub thread: Tid,
     pub what: What,
@@ -17,62 +39,4 @@ pub struct Act {
     pub wanted: u64,
     /// The name of the error that it answered, or nothing.
     pub error: &'static str,
-}
-
-/// What a request is about: the number of a process, path or port, and how many events of a port it wants.
-#[derive(Clone, Copy)]
-pub struct Subject {
-    number: u64,
-    wanted: u64,
-}
-
-impl Subject {
-    /// Takes the request, so that no holder of a whole run drops one.
-    pub fn of(request: Request) -> Self {
-        let mut subject = Subject {
-            number: 0,
-            wanted: 0,
-        };
-        match &request {
-            Request::Kill { process } => subject.number = u64::from(process.0),
-            Request::Attach { path, .. } | Request::Detach { path } | Request::Await { path } => {
-                subject.number = u64::from(path.0);
-            }
-            Request::Get { port, .. } => {
-                subject.number = u64::from(port.0);
-                subject.wanted = 1;
-            }
-            Request::GetN { port, nget, .. } => {
-                subject.number = u64::from(port.0);
-                subject.wanted = u64::from(*nget);
-            }
-            _ => {}
-        }
-        subject
-    }
-}
-
-impl Act {
-    /// What a thread did at an event, by the subject of its turn's request, or of the request whose wait its turn ended.
-    pub fn of(event: &Event, subject: Subject) -> Self {
-        let mut act = Act {
-            event: u64::from(event.number),
-            thread: event.thread,
-            what: event.what,
-            number: subject.number,
-            wanted: subject.wanted,
-            error: "",
-        };
-        match &event.answer {
-            Answer::WaitCall { call } => act.number = u64::from(*call),
-            Answer::Entered { call, .. } => {
-                act.what = What::Accept;
-                act.number = u64::from(*call);
-            }
-            Answer::Child { process } => act.number = u64::from(process.0),
-            Answer::Failure(errno) => act.error = errno.name(),
-            _ => {}
-        }
-        act
-    }
 }

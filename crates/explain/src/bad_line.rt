@@ -1,14 +1,14 @@
 //! A text that is no script: the line as it stands, what is wrong in it, and what is wanted there.
 
-use crate::case::{Case, Key};
+use crate::case::Case;
 use crate::names_told::{find_twice, find_unknown};
 use crate::operands_told::find_wrong;
 use crate::outline::{Walk, line_at, walk_to};
 use crate::place_told::find_place;
 use crate::report::Report;
-use crate::rule::is_listed;
+use crate::rule::{is_listed, is_same};
 use crate::said::Topic;
-use crate::words::{Found, found_at};
+use crate::words::{Found, found_at, word_at};
 use script_line::reason::Reason;
 use script_text::number::{Number, bounded_number};
 use script_text::string::is_printable;
@@ -36,11 +36,11 @@ static REASONS: [Reason; 12] = [
     Reason::Trace,
 ];
 
-/// The number that a word spells.
-pub fn number_of(word: &[u8]) -> Option<u64> {
+/// The number that a word spells, 0 where it spells none.
+pub fn number_of(word: &[u8]) -> u64 {
     match bounded_number(word, 0, u64::MAX) {
-        Number::Found(number) => Some(number),
-        _ => None,
+        Number::Found(number) => number,
+        _ => 0,
     }
 }
 
@@ -50,14 +50,11 @@ pub fn bad_line_of(output: &[u8]) -> Option<BadLine> {
     if !line.starts_with(b"bad line ") {
         return None;
     }
-    let Some(number) = number_of(found_at(line, 2).word) else {
-        return None;
-    };
-    let word = found_at(line, 3).word;
+    let word = word_at(line, 3);
     for reason in &REASONS {
-        if reason.word().as_bytes() == word {
+        if is_same(reason.word().as_bytes(), word) {
             return Some(BadLine {
-                number,
+                number: number_of(word_at(line, 2)),
                 reason: *reason,
             });
         }
@@ -69,24 +66,19 @@ pub fn bad_line_of(output: &[u8]) -> Option<BadLine> {
 fn find_byte(case: &mut Case<'_, '_>) {
     let line = case.at.line;
     let mut rest = line;
-    for _ in line {
-        let Some((byte, later)) = rest.split_first() else {
-            return;
-        };
+    while let [byte, later @ ..] = rest {
         if !is_printable(*byte) {
             case.other = line.len().saturating_sub(later.len()) as u64;
             case.found = Found {
                 word: rest.split_at(1).0,
                 rest: later,
             };
-            case.said = Key {
-                topic: Topic::Byte,
-                word: match *byte {
-                    0xEF => b"order-mark",
-                    0xE2 => b"quote",
-                    0x7F.. => b"high",
-                    _ => rest,
-                },
+            case.said_for = rest;
+            case.said = match *byte {
+                0xEF => Topic::OrderMark,
+                0xE2 => Topic::Quote,
+                0x7F.. => Topic::High,
+                _ => Topic::Byte,
             };
             return;
         }
@@ -97,20 +89,20 @@ fn find_byte(case: &mut Case<'_, '_>) {
 /// The words of a first line, each one of these.
 static HEADER: [&str; 3] = ["doors", "script", "1 2 3 4"];
 
-/// What is wrong with a first line, in a word.
-fn word_of_header(at: &Walk<'_>) -> &'static [u8] {
-    if at.text.is_empty() {
-        return b"empty";
+/// Of a first line that is not that of a script.
+fn find_header(case: &mut Case<'_, '_>) {
+    case.said = Topic::Header;
+    if case.at.text.is_empty() {
+        case.said = Topic::Empty;
+        return;
     }
     for (place, words) in HEADER.iter().enumerate() {
-        if !is_listed(words.as_bytes(), found_at(at.line, place).word) {
-            return b"other";
+        if !is_listed(words.as_bytes(), word_at(case.at.line, place)) {
+            return;
         }
     }
-    if found_at(at.line, 3).word.is_empty() {
-        b"spaced"
-    } else {
-        b"other"
+    if word_at(case.at.line, 3).is_empty() {
+        case.said = Topic::Spaced;
     }
 }
 
@@ -121,16 +113,13 @@ pub fn tell_bad_line(alloc: Global, report: &mut Report, text: &[u8], bad: BadLi
     case.other = walk_to(text, bad.number, at.depth).opener;
     match bad.reason {
         Reason::Byte => find_byte(case),
-        Reason::Header => {
-            case.said.topic = Topic::Header;
-            case.said.word = word_of_header(&at);
-        }
+        Reason::Header => find_header(case),
         Reason::Open => {
-            case.said.topic = Topic::Open;
-            case.said.word = at.place_word();
+            case.said = Topic::Open;
+            case.said_for = at.place_word();
         }
-        Reason::Many => case.said.topic = Topic::Many,
-        Reason::Body => case.said.topic = Topic::Body,
+        Reason::Many => case.said = Topic::Many,
+        Reason::Body => case.said = Topic::Body,
         Reason::Form => find_wrong(alloc, report, case, false),
         Reason::Range => find_wrong(alloc, report, case, true),
         Reason::Twice => find_twice(case),
@@ -143,10 +132,10 @@ pub fn tell_bad_line(alloc: Global, report: &mut Report, text: &[u8], bad: BadLi
 /// Of an input of `check` without a line `trace`: that the bad line ends with this word, and has another before it or in it.
 pub fn tell_joined(report: &mut Report, number: u64, text: &[u8]) {
     let line = line_at(text, number);
-    let first = found_at(line, 0).word;
-    if !matches!(first, [b'#', ..]) && first != b"trace".as_slice() && line.ends_with(b"trace") {
-        report.say(
-            "    the script's last line has no line feed, so that 'trace' became a part of it\n",
+    let first = word_at(line, 0);
+    if !first.starts_with(b"#") && !is_listed(b"trace", first) && line.ends_with(b"trace") {
+        report.put(
+            b"    the script's last line has no line feed, so that 'trace' became a part of it\n",
         );
     }
 }

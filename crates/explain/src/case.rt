@@ -1,19 +1,11 @@
 //! A line that is told of, what is known of it, and what is told of that by the templates of `said.rt`.
 
-use crate::declared::{kind_named, tell_names};
-use crate::form::form_of;
+use crate::declared::{Kind, tell_names};
 use crate::operand::{Operand, range_of, told_of};
-use crate::outline::{Walk, line_at, name_at};
+use crate::outline::{Walk, line_at};
 use crate::report::Report;
 use crate::said::{Topic, said_of};
-use crate::words::{Found, found_at};
-
-/// What is told: the row of `said.rt` on this for this word.
-#[derive(Clone, Copy)]
-pub(crate) struct Key<'a> {
-    pub topic: Topic,
-    pub word: &'a [u8],
-}
+use crate::words::{Found, found_at, word_at};
 
 /// A line, what is known of it, and what is to be told.
 #[derive(Clone, Copy)]
@@ -27,38 +19,41 @@ pub(crate) struct Case<'c, 'a> {
     pub other: u64,
     /// What is wanted in place of the word.
     pub operand: Operand,
-    /// The message.
-    pub said: Key<'a>,
-    /// Why the word is wrong, or what was meant by it.
-    pub slip: Key<'a>,
-    /// What follows the message.
-    pub note: Key<'a>,
+    /// What is to have the name.
+    pub kind: Kind,
+    /// The message: the row of `said.rt` on this for this word.
+    pub said: Topic,
+    pub said_for: &'a [u8],
+    /// The same of why the word is wrong, or what was meant by it.
+    pub slip: Topic,
+    pub slip_for: &'a [u8],
+    /// The same of what follows the message.
+    pub note: Topic,
+    pub note_for: &'a [u8],
 }
 
 impl<'c, 'a> Case<'c, 'a> {
     /// A line, and what is told of it for its first word.
     pub(crate) fn new(at: &'c Walk<'a>, topic: Topic) -> Self {
         let found = found_at(at.line, 0);
-        let nothing = Key {
-            topic: Topic::Nothing,
-            word: &[],
-        };
+        let word = found.word;
         Case {
             at,
             found,
             other: 0,
             operand: Operand::End,
-            said: Key {
-                topic,
-                word: found.word,
-            },
-            slip: nothing,
-            note: nothing,
+            kind: Kind::Thread,
+            said: topic,
+            said_for: word,
+            slip: Topic::Nothing,
+            slip_for: word,
+            note: Topic::Nothing,
+            note_for: word,
         }
     }
 
     /// Tells a fact by its letter in templates; `key` is the word that the template is told for.
-    fn tell_fact(&self, report: &mut Report, fact: u8, key: &[u8]) {
+    fn tell_fact(&self, report: &mut Report, fact: u8, key: &'a [u8]) {
         let at = self.at;
         let number = match fact {
             b'n' => Some(at.number),
@@ -81,19 +76,20 @@ impl<'c, 'a> Case<'c, 'a> {
             b'l' => at.line,
             // the line, and below it marks under the word: lines of their own
             b's' => return report.show(at.line, self.found),
-            // the first two words of the other line
-            b'x' => found_at(line_at(at.text, self.other), 0).word,
-            b'y' => name_at(at.text, self.other),
-            // the same of the line that begins the thread or procedure
-            b'i' => found_at(line_at(at.text, at.body), 0).word,
-            b'j' => name_at(at.text, at.body),
-            b'p' => name_at(at.text, at.process),
+            // the first two words of the other line, the same of the line that begins the thread or procedure, and the name of the
+            // process
+            b'x' | b'y' | b'i' | b'j' | b'p' => {
+                let line = match fact {
+                    b'x' | b'y' => self.other,
+                    b'p' => at.process,
+                    _ => at.body,
+                };
+                let place = if matches!(fact, b'x' | b'i') { 0 } else { 1 };
+                word_at(line_at(at.text, line), place)
+            }
             // the declared names of the kind that is wanted
-            b'd' => return tell_names(report, at, kind_named(at.role)),
-            b'f' => match form_of(at.line, None) {
-                Some(form) => form.text.as_bytes(),
-                None => return,
-            },
+            b'd' => return tell_names(report, at, self.kind),
+            b'f' => at.form.text.as_bytes(),
             // the operand as the form names it
             b'a' => told_of(self.operand).name,
             // which words the operand is
@@ -104,11 +100,11 @@ impl<'c, 'a> Case<'c, 'a> {
         report.word(words);
     }
 
-    fn fill(&self, report: &mut Report, key: Key<'_>) {
+    fn fill(&self, report: &mut Report, topic: Topic, key: &'a [u8]) {
         let mut is_fact = false;
-        for byte in said_of(self, key) {
+        for byte in said_of(self, topic, key) {
             if is_fact {
-                self.tell_fact(report, *byte, key.word);
+                self.tell_fact(report, *byte, key);
                 is_fact = false;
             } else if *byte == b'%' {
                 is_fact = true;
@@ -120,8 +116,8 @@ impl<'c, 'a> Case<'c, 'a> {
 
     /// Tells all that is to be told.
     pub(crate) fn tell(&self, report: &mut Report) {
-        self.fill(report, self.said);
-        self.fill(report, self.slip);
-        self.fill(report, self.note);
+        self.fill(report, self.said, self.said_for);
+        self.fill(report, self.slip, self.slip_for);
+        self.fill(report, self.note, self.note_for);
     }
 }

@@ -1,12 +1,12 @@
 //! What is said of an answer, for its command, the input, the output and the status.
 
-use crate::bad_line::{bad_line_of, tell_bad_line, tell_joined};
+use crate::bad_line::{BadLine, bad_line_of, tell_bad_line, tell_joined};
 use crate::command::tell_words;
 use crate::messages::{Said, tell};
-use crate::names::Names;
 use crate::player::Player;
 use crate::report::Report;
-use crate::run::{Replay, Run};
+use crate::rule::is_same;
+use crate::run::Run;
 use crate::run_told::{tell_able, tell_refused, tell_stalled};
 use crate::trace_told::{Trace, tell_no_turn, tell_other};
 use crate::warnings::warn;
@@ -15,105 +15,104 @@ use dk_base::list::Bytes;
 use script_line::reason::Reason;
 use std::alloc::Global;
 
-/// An answer to a script, and of `check` to a script and a trace.
-#[derive(Clone, Copy)]
-struct Answer<'a> {
-    alloc: Global,
-    is_check: bool,
-    text: &'a [u8],
-    trace: Option<&'a [u8]>,
-    output: &'a [u8],
-    status: u8,
-}
-
-/// What is wrong with a text that is no script, and of `check`, which is told the trace apart.
-fn tell_bad(report: &mut Report, answer: &Answer<'_>) {
-    let Some(bad) = bad_line_of(answer.output) else {
-        return;
-    };
-    match bad.reason {
-        Reason::Trace => tell(report, Said::NoTrace, bad.number),
-        _ if answer.trace.is_some() && answer.text.is_empty() => tell(report, Said::NoScript, 0),
-        _ => tell_bad_line(answer.alloc, report, answer.text, bad),
-    }
-    if answer.is_check && answer.trace.is_none() {
-        tell_joined(report, bad.number, answer.text);
-    }
-}
-
-/// What is said of the run that is taken again by the lines of a trace.
-fn tell_again<P: Player>(report: &mut Report, answer: &Answer<'_>, trace: &Trace<'_>) {
-    let mut replay = Replay {
-        events: 0,
-        acts: Vec::new(answer.alloc),
-        threads: Vec::new(answer.alloc),
-        paths: Names::new(answer.alloc),
-    };
-    let is_asked = answer.status != 4;
-    match replay.read::<P>(answer.alloc, answer.text, trace, is_asked) {
-        Ok(()) => {
-            let run = &Run {
-                text: answer.text,
-                threads: replay.threads.as_slice(),
-                paths: &replay.paths,
-                acts: replay.acts.as_slice(),
-                events: replay.events,
-            };
-            match answer.status {
-                1 => tell_stalled(report, run),
-                4 => tell_able(report, run, Said::Budget),
-                9 => tell_no_turn(report, run, trace),
-                _ => tell_refused(report, run),
-            }
-        }
-        Err(_) => report.lose(),
-    }
-}
-
-/// What is said of a trace that is not legal.
-fn tell_trace<P: Player>(report: &mut Report, answer: &Answer<'_>, text: &[u8]) {
-    let mut trace = Trace::legal(text);
-    trace.add(answer.output);
-    if trace.want == b"turn".as_slice() {
-        tell_again::<P>(report, answer, &trace);
-    } else {
-        tell_other(report, &trace);
-    }
-}
-
-/// What is said of an answer, and the warnings on the script. Of an input that is not kept no more is told than that it is too long.
-fn tell_answer<'a, P: Player>(
+/// What is wrong with an input that is no script, or of `check` no script and a trace. Of an input that is not kept no more is told
+/// than that it is too long.
+fn tell_bad<P: Player>(
     alloc: Global,
     report: &mut Report,
     word: &str,
-    input: Option<&'a [u8]>,
-    output: &'a [u8],
-    status: u8,
+    input: Option<&[u8]>,
+    bad: BadLine,
 ) {
-    if output == b"bad line 0 size\n".as_slice() {
+    if let Reason::Size = bad.reason {
         return tell(report, Said::TooLong, 0);
     }
     let Some(input) = input else {
         return;
     };
-    let mut answer = Answer {
-        alloc,
-        is_check: word == "check",
-        text: input,
-        trace: None,
-        output,
-        status,
-    };
-    if answer.is_check {
-        (answer.text, answer.trace) = P::parts(input);
+    if !is_same(word.as_bytes(), b"check") {
+        return tell_bad_line(alloc, report, input, bad);
     }
-    match (status, answer.trace) {
-        (2, _) => return tell_bad(report, &answer),
-        (1 | 4 | 8, _) => tell_again::<P>(report, &answer, &Trace::legal(output)),
-        (9, Some(text)) => tell_trace::<P>(report, &answer, text),
+    let (text, trace) = P::parts(input);
+    match trace {
+        Some(_) if text.is_empty() => tell(report, Said::NoScript, 0),
+        Some(_) => tell_bad_line(alloc, report, text, bad),
+        None => {
+            match bad.reason {
+                Reason::Trace => tell(report, Said::NoTrace, bad.number),
+                _ => tell_bad_line(alloc, report, text, bad),
+            }
+            tell_joined(report, bad.number, text);
+        }
+    }
+}
+
+/// What is said of a run when it is taken again by the lines of its trace, or of a trace in which no turn is wanted.
+fn tell_again<P: Player>(
+    alloc: Global,
+    report: &mut Report,
+    run: &mut Run<'_>,
+    trace: &Trace<'_>,
+    status: u8,
+) {
+    if status == 9 && !is_same(trace.want, b"turn") {
+        return tell_other(report, trace);
+    }
+    if let Err(NoMemory) = P::play(alloc, run.text, run) {
+        return report.lose();
+    }
+    match status {
+        1 => tell_stalled(report, run),
+        4 => tell_able(report, run, Said::Budget),
+        9 => tell_no_turn(report, run, trace),
+        _ => tell_refused(report, run),
+    }
+}
+
+/// What is said of a run, by its script, the trace that `check` was given, and what a command answered.
+fn tell_run<'a, P: Player>(
+    alloc: Global,
+    report: &mut Report,
+    text: &'a [u8],
+    given: Option<&'a [u8]>,
+    output: &'a [u8],
+    status: u8,
+) {
+    let trace = &Trace::new(given, output);
+    let run = &mut Run::new(alloc, report, text, trace, status != 4);
+    tell_again::<P>(alloc, report, run, trace, status);
+}
+
+/// What is said of an answer, and the warnings on the script.
+fn tell_answer<P: Player>(
+    alloc: Global,
+    report: &mut Report,
+    words: &[&str],
+    input: Option<&[u8]>,
+    output: Option<&[u8]>,
+    status: u8,
+) {
+    match status {
+        3 => return tell_words(report, words),
+        5..=7 => return,
         _ => {}
     }
-    warn(alloc, report, answer.text);
+    let [word] = words else {
+        return;
+    };
+    let Some(output) = output else {
+        return;
+    };
+    if let Some(bad) = bad_line_of(output) {
+        tell_bad::<P>(alloc, report, word, input, bad);
+    } else if let Some(input) = input {
+        // no script has a line `trace`
+        let (text, trace) = P::parts(input);
+        if status != 0 {
+            tell_run::<P>(alloc, report, text, trace, output, status);
+        }
+        warn(alloc, report, text);
+    }
 }
 
 /// What is said on the error stream of a command's answer, by the words, the input, the output and the exit status: for 1 what each
@@ -127,15 +126,11 @@ pub fn explanation<P: Player>(
     output: Option<&[u8]>,
     status: u8,
 ) -> Result<Bytes, NoMemory> {
-    let mut report = Report::new(alloc);
-    match status {
-        3 => tell_words(&mut report, words),
-        5..=7 => {}
-        _ => {
-            if let ([word], Some(output)) = (words, output) {
-                tell_answer::<P>(alloc, &mut report, word, input, output, status);
-            }
-        }
-    }
-    report.into_text()
+    let mut report = Report {
+        text: Bytes::new(alloc),
+        is_lost: false,
+    };
+    tell_answer::<P>(alloc, &mut report, words, input, output, status);
+    let Report { text, is_lost } = report;
+    if is_lost { Err(NoMemory) } else { Ok(text) }
 }

@@ -1,9 +1,7 @@
 //! The forms of lines.
 
-use crate::near::is_near;
 use crate::operand::Operand;
-use crate::outline::Place;
-use crate::words::found_at;
+use crate::words::word_at;
 
 /// What a word is that begins a line.
 #[derive(Clone, Copy)]
@@ -338,38 +336,25 @@ static FORMS: [Form; 49] = [
     },
 ];
 
-fn forms() -> &'static [Form] {
+pub(crate) fn forms() -> &'static [Form] {
     &FORMS
 }
 
-/// The form of a line; where a place is given, of one that stands there and begins with nearly the same word.
-pub(crate) fn form_of(line: &[u8], near_in: Option<Place>) -> Option<&'static Form> {
-    let word = found_at(line, 0).word;
+/// Of a line without a word that begins lines.
+pub(crate) static NO_FORM: Form = Form {
+    text: "",
+    role: Role::Unknown,
+    operands: [Operand::End, Operand::End, Operand::End, Operand::End],
+    tail: Operand::End,
+};
+
+/// The form of a line, by its first word.
+pub(crate) fn form_of(line: &[u8]) -> &'static Form {
+    let word = word_at(line, 0);
     for form in forms() {
-        let head = found_at(form.text.as_bytes(), 0).word;
-        let is_meant = match near_in {
-            None => head == word,
-            Some(place) => {
-                let is_in_place = match form.role {
-                    Role::Budget => !matches!(place, Place::Body | Place::Members),
-                    Role::Process | Role::Child | Role::Schedule => !matches!(place, Place::Body),
-                    Role::Thread | Role::Spare | Role::Proc => matches!(place, Place::Members),
-                    _ => matches!(place, Place::Body),
-                };
-                is_in_place && is_near(word, head)
-            }
-        };
-        if is_meant {
-            return Some(form);
+        if word_at(form.text.as_bytes(), 0) == word {
+            return form;
         }
     }
-    None
-}
-
-/// What the first word of a line is.
-pub fn role_of_line(line: &[u8]) -> Role {
-    match form_of(line, None) {
-        Some(form) => form.role,
-        None => Role::Unknown,
-    }
+    &NO_FORM
 }

@@ -3,10 +3,10 @@
 use crate::outline::line_at;
 use crate::report::Report;
 
-/// What is said: the row of its place in `WORDS`.
+/// What is said. `WORDS` has the line of its number.
 #[derive(Clone, Copy)]
 pub(crate) enum Said {
-    Stalled,
+    Stalled = 1,
     OtherCalls,
     NoIdle,
     NoCommand,
@@ -144,8 +144,7 @@ pub(crate) struct Message<'a> {
 
 impl Message<'_> {
     pub(crate) fn tell(&self, report: &mut Report) {
-        let row = u64::from(self.said as u8).saturating_add(1);
-        for byte in line_at(WORDS.as_bytes(), row) {
+        for byte in line_at(WORDS.as_bytes(), self.said as u64) {
             match *byte {
                 b'~' => report.word(self.name),
                 b'@' => report.word(self.word),
@@ -153,7 +152,7 @@ impl Message<'_> {
                 b'#' => report.number(self.event),
                 b'%' => report.number(self.number),
                 b'&' => report.number(self.other),
-                b'|' => report.say("\n"),
+                b'|' => report.put(b"\n"),
                 other => report.put(&[other]),
             }
         }

@@ -1,54 +1,31 @@
 //! Lists of names.
 
 use crate::near::is_near;
-use dk_base::error::NoMemory;
-use std::alloc::Global;
 
-/// Different names, in order.
+/// Different names, in order. Where memory ran out for one, it is not there.
 #[derive(Drop)]
 pub struct Names<'a> {
-    names: Vec<&'a [u8]>,
+    pub list: Vec<&'a [u8]>,
+    pub is_lost: bool,
 }
 
 impl<'a> Names<'a> {
-    pub fn new(alloc: Global) -> Self {
-        Names {
-            names: Vec::new(alloc),
-        }
-    }
-
-    /// No name again.
-    pub(crate) fn clear(&mut self) {
-        self.names.clear();
-    }
-
-    pub fn has(&self, name: &[u8]) -> bool {
-        self.names.as_slice().contains(&name)
-    }
-
-    /// The first that is nearly this one.
-    pub fn near(&self, name: &[u8]) -> Option<&'a [u8]> {
-        for other in self.names.as_slice() {
+    /// The first that is nearly this one, without bytes where there is none.
+    pub fn near(&self, name: &[u8]) -> &'a [u8] {
+        for other in self.list.as_slice() {
             if is_near(other, name) {
-                return Some(*other);
+                return *other;
             }
         }
-        None
+        &[]
     }
 
-    /// The name of a place, from 0.
-    pub fn at(&self, place: usize) -> Option<&'a [u8]> {
-        self.names.get(place).copied()
-    }
-
-    /// Adds a name, unless it is there.
-    pub fn add(&mut self, name: &'a [u8]) -> Result<(), NoMemory> {
-        if self.has(name) {
-            return Ok(());
+    /// Adds a name. Whether it was not there.
+    pub fn add(&mut self, name: &'a [u8]) -> bool {
+        let is_new = !self.list.contains(&name);
+        if is_new && self.list.push(name).is_err() {
+            self.is_lost = true;
         }
-        match self.names.push(name) {
-            Ok(()) => Ok(()),
-            Err(_) => Err(NoMemory),
-        }
+        is_new
     }
 }

@@ -1,71 +1,71 @@
 //! What is told of a line that declares a name again, or names what is not declared.
 
-use crate::case::{Case, Key};
-use crate::declared::{Kind, Sought, declaration_of, kind_named, kind_of};
+use crate::case::Case;
+use crate::declared::{Kind, Sought, declaration_of};
 use crate::form::Role;
-use crate::outline::{Walk, line_at, name_at};
+use crate::outline::line_at;
 use crate::said::Topic;
-use crate::words::{Found, found_at};
+use crate::words::{Found, found_at, word_at};
+use script_text::words::next_word;
 
 /// Of a line that declares a name that an earlier line declares.
 pub(crate) fn find_twice(case: &mut Case<'_, '_>) {
     let at = case.at;
-    case.said.topic = Topic::Twice;
-    case.found = found_at(at.line, 1);
-    case.other = declaration_of(at, kind_of(at.role), Sought::Same(case.found.word), 0);
-}
-
-/// The name in a line that is not declared: of the names of a `schedule` the first.
-fn name_in<'a>(at: &Walk<'a>) -> Found<'a> {
-    let place = match at.role {
-        Role::Child => 3,
-        Role::Create => 2,
-        _ => 1,
+    let kind = match at.form.role {
+        Role::Process | Role::Child => Kind::Process,
+        Role::Proc => Kind::Procedure,
+        _ => Kind::Thread,
     };
-    let mut found = found_at(at.line, place);
-    if let Role::Schedule = at.role {
-        for _ in at.line {
-            if found.word.is_empty()
-                || declaration_of(at, Kind::Thread, Sought::Same(found.word), 0) == 0
-            {
-                break;
-            }
-            found = found_at(found.rest, 0);
-        }
-    }
-    found
+    case.said = Topic::Twice;
+    case.found = found_at(at.line, 1);
+    case.other = declaration_of(at, kind, Sought::Same, case.found.word, 0);
 }
 
 static KINDS: [Kind; 3] = [Kind::Process, Kind::Thread, Kind::Procedure];
 
-/// Of a line that names what is not declared.
+/// Notes what was meant by a name of this kind that is not declared: one that is nearly the same, or one of another kind, by the first
+/// word of the line that declares it.
+fn find_meant_name(case: &mut Case<'_, '_>, kind: Kind, name: &[u8]) {
+    let at = case.at;
+    let mut topic = Topic::Near;
+    let mut place = 1;
+    let mut line = declaration_of(at, kind, Sought::Near, name, 0);
+    if line == 0 {
+        topic = Topic::Named;
+        place = 0;
+        for kind in &KINDS {
+            line = declaration_of(at, *kind, Sought::Same, name, 0);
+            if line != 0 {
+                break;
+            }
+        }
+    }
+    case.note = topic;
+    case.note_for = word_at(line_at(at.text, line), place);
+}
+
+/// Of a line that names what is not declared; of the names of a `schedule` it is the first.
 pub(crate) fn find_unknown(case: &mut Case<'_, '_>) {
-    let (at, kind) = (case.at, kind_named(case.at.role));
-    case.found = name_in(at);
-    let name = case.found.word;
-    if name.is_empty() {
-        case.said.topic = Topic::Nothing;
-        return;
-    }
-    case.other = declaration_of(at, kind, Sought::Same(name), 0);
-    if case.other != 0 {
-        case.said.topic = Topic::Declared;
-        return;
-    }
-    case.said.topic = Topic::Undeclared;
-    let near = declaration_of(at, kind, Sought::Near(name), 0);
-    if near != 0 {
-        case.note.topic = Topic::Near;
-        case.note.word = name_at(at.text, near);
-        return;
-    }
-    // the first word of the line that declares it as a name of another kind
-    case.note.topic = Topic::Named;
-    for kind in &KINDS {
-        let other = declaration_of(at, *kind, Sought::Same(name), 0);
-        if other != 0 {
-            case.note.word = found_at(line_at(at.text, other), 0).word;
+    let at = case.at;
+    let (kind, before) = match at.form.role {
+        Role::Child => (Kind::Process, 2),
+        Role::Kill => (Kind::Process, 0),
+        Role::Create => (Kind::Procedure, 1),
+        _ => (Kind::Thread, 0),
+    };
+    case.kind = kind;
+    let mut rest = found_at(at.line, before).rest;
+    while let Some((word, later)) = next_word(rest) {
+        case.found = Found { word, rest: later };
+        case.other = declaration_of(at, kind, Sought::Same, word, 0);
+        if case.other == 0 {
+            case.said = Topic::Undeclared;
+            return find_meant_name(case, kind, word);
+        }
+        if !matches!(at.form.role, Role::Schedule) {
+            case.said = Topic::Declared;
             return;
         }
+        rest = later;
     }
 }

@@ -3,11 +3,11 @@
 /// Both words without the bytes that both begin with.
 pub fn without_front<'a>(one: &'a [u8], other: &'a [u8]) -> (&'a [u8], &'a [u8]) {
     let mut rest = (one, other);
-    for _ in 0..one.len() {
-        match rest {
-            ([x, xs @ ..], [y, ys @ ..]) if *x == *y => rest = (xs, ys),
-            _ => break,
+    while let ([x, xs @ ..], [y, ys @ ..]) = rest {
+        if *x != *y {
+            break;
         }
+        rest = (xs, ys);
     }
     rest
 }
@@ -19,10 +19,21 @@ pub fn is_near(one: &[u8], other: &[u8]) -> bool {
     } else {
         (one, other)
     };
-    match without_front(long, short) {
-        _ if short.len() < 3 => false,
-        ([_, rest @ ..], short) if short.ends_with(rest) => true,
-        ([a, b, x @ ..], [c, d, y @ ..]) => *a == *d && *b == *c && x == y,
+    if short.len() < 3 {
+        return false;
+    }
+    // they differ in the first byte, if there is one
+    let (long, short) = without_front(long, short);
+    let [first, rest @ ..] = long else {
+        return false;
+    };
+    if short.ends_with(rest) {
+        return true;
+    }
+    match (rest, short) {
+        ([second, x @ ..], [head, y @ ..]) if *second == *head => {
+            y.ends_with(x) && matches!(y, [next, ..] if *next == *first)
+        }
         _ => false,
     }
 }

@@ -1,34 +1,29 @@
 //! What is told of a line whose operands are wrong.
 
-use crate::case::{Case, Key};
-use crate::form::form_of;
+use crate::case::Case;
 use crate::operand::{Operand, told_of};
 use crate::report::Report;
 use crate::said::Topic;
 use crate::stage::find_wrong_word;
 use std::alloc::Global;
 
-/// Why a string is none, which stands in place of a piece of data: by what follows its closing quote, where it has one.
-fn slip_of_string(word: &[u8]) -> Key<'_> {
-    let mut escaped = true;
-    for (place, byte) in word.iter().enumerate() {
-        if escaped {
-            escaped = false;
-        } else if *byte == b'"' {
-            let rest = word.get(place.saturating_add(1)..).unwrap_or(&[]);
-            let topic = if rest.is_empty() {
-                Topic::Escaped
-            } else {
-                Topic::String
+/// Why the word is no string, which stands in place of a piece of data: by what follows its closing quote, where it has one.
+fn find_slip_of_string(case: &mut Case<'_, '_>) {
+    case.slip = Topic::Unclosed;
+    let mut rest = case.found.word;
+    // of the opening quote no more is known than of a byte after a backslash
+    let mut is_escaped = true;
+    while let [byte, later @ ..] = rest {
+        rest = later;
+        if !is_escaped && *byte == b'"' {
+            case.slip_for = rest;
+            case.slip = match rest {
+                [] => Topic::Escaped,
+                _ => Topic::String,
             };
-            return Key { topic, word: rest };
-        } else {
-            escaped = *byte == b'\\';
+            return;
         }
-    }
-    Key {
-        topic: Topic::Unclosed,
-        word,
+        is_escaped = !is_escaped && *byte == b'\\';
     }
 }
 
@@ -39,29 +34,25 @@ pub(crate) fn find_wrong(
     case: &mut Case<'_, '_>,
     is_range: bool,
 ) {
-    let Some(form) = form_of(case.at.line, None) else {
-        return;
-    };
-    case.said.topic = Topic::Whole;
-    if !find_wrong_word(alloc, report, case, form, is_range) {
+    case.said = Topic::Whole;
+    if !find_wrong_word(alloc, report, case, is_range) {
         return;
     }
-    let (word, class) = (case.found.word, told_of(case.operand).class);
-    case.said.topic = Topic::Operand;
-    case.said.word = class;
-    case.note.topic = Topic::OperandForm;
-    case.note.word = class;
+    let word = case.found.word;
+    let class = told_of(case.operand).class;
+    case.said_for = class;
+    case.note = Topic::OperandForm;
+    case.note_for = class;
     if word.is_empty() {
-        case.said.topic = Topic::Missing;
+        case.said = Topic::Missing;
     } else if is_range {
-        case.said.topic = Topic::Range;
+        case.said = Topic::Range;
     } else {
-        case.slip = match (case.operand, word) {
-            (Operand::Piece, [b'"', ..]) => slip_of_string(word),
-            _ => Key {
-                topic: Topic::Class,
-                word,
-            },
-        };
+        case.said = Topic::Operand;
+        case.slip = Topic::Class;
+        case.slip_for = word;
+        if word.starts_with(b"\"") && matches!(case.operand, Operand::Piece) {
+            find_slip_of_string(case);
+        }
     }
 }

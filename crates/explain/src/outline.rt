@@ -1,7 +1,8 @@
 //! The lines of a script one after the other, and what is open before each, by the first words of the lines before it.
 
-use crate::form::{Role, role_of_line};
-use crate::words::found_at;
+ghost use Rattle.std.specs.Prelude.{◌≡◌, ◌<◌, true, length};
+
+use crate::form::{Form, NO_FORM, Role, form_of};
 use script_text::lines::next_line;
 
 /// Where a line stands.
@@ -15,11 +16,15 @@ pub(crate) enum Place {
     Members,
     /// After a schedule.
     Schedule,
-    /// In a thread or a procedure.
+    /// In a thread or a procedure, before its first block.
     Body,
+    /// In a block.
+    Block,
+    /// After a block of a body.
+    AfterBlock,
 }
 
-/// The words of places, in their order, and of two in a body.
+/// The words of places, in their order.
 static PLACES: &str = "\
 after-header
 after-budget
@@ -30,48 +35,50 @@ in-block
 after-block
 ";
 
-/// The lines of a text, counted from 1.
+/// The lines of a text, one after the other.
 #[derive(Clone, Copy)]
 pub struct Lines<'a> {
-    /// The text after the lines so far.
+    /// The text after this line.
     rest: &'a [u8],
-    number: u64,
+    /// From 1.
+    pub number: u64,
+    pub line: &'a [u8],
 }
 
 impl<'a> Lines<'a> {
+    /// Before the first line.
     pub fn new(text: &'a [u8]) -> Self {
         Lines {
             rest: text,
             number: 0,
+            line: &[],
         }
     }
 
-    pub fn next(&mut self) -> Option<(u64, &'a [u8])> {
+    /// Goes on to the next line, if there is one.
+    pub fn next(&mut self) -> bool
+        ensures shorter { result ≡ true → length self.new.rest.now < length self.old.rest.now }
+    {
         let Some((line, rest)) = next_line(self.rest) else {
-            return None;
+            return false;
         };
         self.rest = rest;
         self.number = self.number.saturating_add(1);
-        Some((self.number, line))
+        self.line = line;
+        true
     }
 }
 
 /// The line of this number, without bytes where there is none.
 pub fn line_at(text: &[u8], number: u64) -> &[u8] {
     let mut lines = Lines::new(text);
-    let mut line: &[u8] = &[];
-    for _ in 0..number {
-        match lines.next() {
-            Some((_, next)) => line = next,
-            None => return lines.rest,
+    while lines.next() {
+        if lines.number == number {
+            return lines.line;
         }
     }
-    line
-}
-
-/// The second word of the line of this number, which is the name that it declares.
-pub(crate) fn name_at(text: &[u8], number: u64) -> &[u8] {
-    found_at(line_at(text, number), 1).word
+    // no bytes are left
+    lines.rest
 }
 
 /// A line of a text, and what is open before it, where none of the lines before it is bad. What is open is told by the number of
@@ -84,8 +91,7 @@ pub(crate) struct Walk<'a> {
     pub number: u64,
     /// It has no bytes at the text's end.
     pub line: &'a [u8],
-    /// What its first word is.
-    pub role: Role,
+    pub form: &'static Form,
     pub place: Place,
     pub process: u64,
     /// The last thread or procedure.
@@ -94,8 +100,6 @@ pub(crate) struct Walk<'a> {
     pub opener: u64,
     /// How many blocks are open in the body.
     pub depth: u64,
-    /// Whether the body has had a block.
-    pub has_blocks: bool,
 }
 
 impl<'a> Walk<'a> {
@@ -106,41 +110,43 @@ impl<'a> Walk<'a> {
             rest: text,
             number: 0,
             line: &[],
-            role: Role::Unknown,
+            form: &NO_FORM,
             place: Place::Start,
             process: 0,
             body: 0,
             opener: 0,
             depth: 0,
-            has_blocks: false,
         }
     }
 
     /// Where the line stands, in a word.
     pub(crate) fn place_word(&self) -> &'static [u8] {
-        let row = match self.place {
-            Place::Body if self.depth > 0 => 6,
-            Place::Body if self.has_blocks => 7,
-            place => place as u64,
-        };
-        line_at(PLACES.as_bytes(), row)
+        line_at(PLACES.as_bytes(), self.place as u64)
     }
 
     /// Goes on to the next line, if there is one.
-    pub(crate) fn next(&mut self) -> bool {
+    pub(crate) fn next(&mut self) -> bool
+        ensures shorter { result ≡ true → length self.new.rest.now < length self.old.rest.now }
+    {
+        let next = next_line(self.rest);
         // what is open after the line so far
-        if let Place::Body = self.place {
-            match self.role {
+        if let Place::Body | Place::Block | Place::AfterBlock = self.place {
+            match self.form.role {
                 Role::End if self.depth == 0 => self.place = Place::Members,
-                Role::End => self.depth = self.depth.saturating_sub(1),
+                Role::End => {
+                    self.depth = self.depth.saturating_sub(1);
+                    if self.depth == 0 {
+                        self.place = Place::AfterBlock;
+                    }
+                }
                 Role::Block => {
-                    self.has_blocks = true;
+                    self.place = Place::Block;
                     self.depth = self.depth.saturating_add(1);
                 }
                 _ => {}
             }
         } else {
-            match self.role {
+            match self.form.role {
                 Role::Budget => self.place = Place::Processes,
                 Role::Process | Role::Child => {
                     self.place = Place::Members;
@@ -150,21 +156,21 @@ impl<'a> Walk<'a> {
                     self.place = Place::Body;
                     self.body = self.number;
                     self.opener = self.number;
-                    self.has_blocks = false;
                 }
                 Role::Schedule => self.place = Place::Schedule,
                 _ => {}
             }
         }
-        let Some((line, rest)) = next_line(self.rest) else {
-            self.line = &[];
-            self.role = Role::Unknown;
+        let Some((line, rest)) = next else {
+            // no bytes are left
+            self.line = self.rest;
+            self.form = &NO_FORM;
             return false;
         };
         self.rest = rest;
         self.number = self.number.saturating_add(1);
         self.line = line;
-        self.role = role_of_line(line);
+        self.form = form_of(line);
         true
     }
 }
@@ -172,10 +178,7 @@ impl<'a> Walk<'a> {
 /// The line of this number, or the text's end, and the last line before it that fewer blocks than `depth` are open before.
 pub(crate) fn walk_to(text: &[u8], number: u64, depth: u64) -> Walk<'_> {
     let mut walk = Walk::new(text);
-    for _ in 0..u64::MAX {
-        if !walk.next() || walk.number == number {
-            break;
-        }
+    while walk.next() && walk.number != number {
         // after the line that begins it no end has closed it
         if walk.depth < depth {
             walk.opener = walk.number;

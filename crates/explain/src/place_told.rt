@@ -1,60 +1,60 @@
 //! What is told of a line that begins with a word that has no place there.
 
-use crate::case::{Case, Key};
-use crate::form::{Role, form_of};
+use crate::case::Case;
+use crate::form::{Role, forms};
+use crate::near::is_near;
 use crate::outline::Place;
-use crate::rule::has_one_of;
+use crate::rule::{has_one_of, is_listed};
 use crate::said::{Topic, said_of};
-use crate::words::found_at;
+use crate::words::word_at;
 
-/// What follows where no line begins with a word: what may have been meant, or what is wanted.
-fn note_of<'a>(case: &Case<'_, 'a>, wanted: Key<'a>) -> Key<'a> {
-    let word = case.found.word;
-    if let Some(form) = form_of(case.at.line, Some(case.at.place)) {
-        return Key {
-            topic: Topic::Near,
-            word: found_at(form.text.as_bytes(), 0).word,
+/// Notes what may have been meant by a word that begins no line, where that is plain.
+fn find_meant(case: &mut Case<'_, '_>) {
+    let (word, place) = (case.found.word, case.at.place);
+    let is_in_body = matches!(place, Place::Body | Place::Block | Place::AfterBlock);
+    for form in forms() {
+        let has_place = match form.role {
+            Role::Budget => matches!(place, Place::Start | Place::Processes | Place::Schedule),
+            Role::Thread | Role::Spare | Role::Proc => matches!(place, Place::Members),
+            Role::Process | Role::Child | Role::Schedule => !is_in_body,
+            _ => is_in_body,
         };
+        let head = word_at(form.text.as_bytes(), 0);
+        if has_place && is_near(word, head) {
+            case.note = Topic::Near;
+            case.note_for = head;
+            return;
+        }
     }
     if has_one_of(word, b"();") {
-        return Key {
-            topic: Topic::Brackets,
-            word,
-        };
+        case.note = Topic::Brackets;
     }
-    wanted
 }
 
 /// Of a line whose first word has no place there.
 pub(crate) fn find_place(case: &mut Case<'_, '_>) {
     let (at, word) = (case.at, case.found.word);
-    let wanted = Key {
-        topic: match at.text.get(13) {
-            Some(b'1') => Topic::WantedFirst,
-            _ => Topic::Wanted,
-        },
-        word: at.place_word(),
-    };
-    match at.role {
-        Role::Unknown if word.is_empty() => {}
-        Role::Unknown => {
-            case.said.topic = Topic::NoWord;
-            case.slip.topic = Topic::Line;
-            case.slip.word = word;
-            if at.line == b"trace".as_slice() {
-                case.slip.topic = Topic::Lone;
-            } else if said_of(case, case.slip).is_empty() {
-                case.note = note_of(case, wanted);
+    let place = at.place_word();
+    if !matches!(at.form.role, Role::Unknown) {
+        case.said = Topic::Version;
+        if said_of(case, Topic::Version, word).is_empty() {
+            case.said = Topic::Place;
+            if !matches!(at.place, Place::Body | Place::Block | Place::AfterBlock) {
+                case.note = Topic::Version;
+                case.note_for = place;
             }
         }
-        _ => {
-            case.said.topic = Topic::Version;
-            if said_of(case, case.said).is_empty() {
-                case.said.topic = Topic::Place;
-                if !matches!(at.place, Place::Body) {
-                    case.note = wanted;
-                }
-            }
+    } else if !word.is_empty() {
+        case.said = Topic::NoWord;
+        case.slip = if is_listed(b"trace", at.line) {
+            Topic::Lone
+        } else {
+            Topic::Line
+        };
+        if said_of(case, case.slip, word).is_empty() {
+            case.note = Topic::Version;
+            case.note_for = place;
+            find_meant(case);
         }
     }
 }

@@ -1,11 +1,9 @@
 //! The lines that are written to the error stream.
 
 use crate::words::Found;
-use dk_base::error::NoMemory;
 use dk_base::list::Bytes;
 use itoa::Buffer;
 use script_text::string::{hex_digit, is_printable};
-use std::alloc::Global;
 
 /// Of longer words and lines the first bytes are shown.
 const SHOWN_MAX: usize = 200;
@@ -13,24 +11,11 @@ const SHOWN_MAX: usize = 200;
 /// What is written so far. Where memory ran out for a part of it, nothing is written at the end.
 #[derive(Drop)]
 pub struct Report {
-    text: Bytes,
-    is_lost: bool,
+    pub(crate) text: Bytes,
+    pub(crate) is_lost: bool,
 }
 
 impl Report {
-    pub fn new(alloc: Global) -> Self {
-        Report {
-            text: Bytes::new(alloc),
-            is_lost: false,
-        }
-    }
-
-    /// The lines, if there was enough memory for all of them.
-    pub fn into_text(self) -> Result<Bytes, NoMemory> {
-        let Report { text, is_lost } = self;
-        if is_lost { Err(NoMemory) } else { Ok(text) }
-    }
-
     /// Memory ran out for something that was to be said.
     pub fn lose(&mut self) {
         self.is_lost = true;
@@ -40,11 +25,6 @@ impl Report {
         if self.text.append(bytes).is_err() {
             self.is_lost = true;
         }
-    }
-
-    /// Words of a sentence.
-    pub fn say(&mut self, words: &str) {
-        self.put(words.as_bytes());
     }
 
     /// Bytes of a text; those that are not printable are shown as `\xHH`, and of many the first alone.
@@ -58,7 +38,7 @@ impl Report {
             }
         }
         if !more.is_empty() {
-            self.say(" ..");
+            self.put(b" ..");
         }
     }
 
@@ -68,26 +48,25 @@ impl Report {
 
     /// A line as it stands, and marks below a word of it. Of a long line the first bytes, without marks.
     pub fn show(&mut self, line: &[u8], found: Found<'_>) {
-        self.say("    ");
+        self.put(b"    ");
         self.word(line);
-        self.say("\n");
-        if line.len() > SHOWN_MAX {
-            return;
-        }
-        self.say("    ");
-        let end = line.len().saturating_sub(found.rest.len());
-        let start = end.saturating_sub(found.word.len());
-        for (place, byte) in line.iter().enumerate() {
-            if place >= end {
-                break;
+        if line.len() <= SHOWN_MAX {
+            let end = line.len().saturating_sub(found.rest.len());
+            let start = end.saturating_sub(found.word.len());
+            self.put(b"\n    ");
+            // only in the word itself a byte can stand that is not printable
+            self.put([b' '; SHOWN_MAX].split_at(start).0);
+            for byte in found.word {
+                if is_printable(*byte) {
+                    self.put(b"^");
+                } else {
+                    self.put(b"^^^^");
+                }
             }
-            self.say(match (is_printable(*byte), place >= start) {
-                (true, true) => "^",
-                (true, false) => " ",
-                (false, true) => "^^^^",
-                (false, false) => "    ",
-            });
+            if start == line.len() {
+                self.put(b" ^");
+            }
         }
-        self.say(if start < line.len() { "\n" } else { " ^\n" });
+        self.put(b"\n");
     }
 }

@@ -3,15 +3,19 @@
 use script_text::names::is_name;
 use script_text::words::next_word;
 
+/// Whether two words are the same.
+pub(crate) fn is_same(one: &[u8], other: &[u8]) -> bool {
+    one == other
+}
+
 /// Whether a list of words has this one.
 pub(crate) fn is_listed(list: &[u8], word: &[u8]) -> bool {
     let mut rest = list;
-    for _ in 0..list.len() {
-        match next_word(rest) {
-            Some((other, _)) if other == word => return true,
-            Some((_, later)) => rest = later,
-            None => return false,
+    while let Some((other, later)) = next_word(rest) {
+        if is_same(other, word) {
+            return true;
         }
+        rest = later;
     }
     false
 }

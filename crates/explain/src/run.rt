@@ -1,112 +1,79 @@
-//! A run that is asked how its threads stand, as plain values.
+//! A run that is taken again, as plain values.
 
-use crate::acts::Act;
-use crate::form::{Role, role_of_line};
+use crate::acts::{Act, Subject};
+use crate::form::{Role, form_of};
 use crate::names::Names;
+use crate::operand::Operand;
 use crate::outline::Lines;
-use crate::player::{Player, is_event};
+use crate::player::is_event;
+use crate::report::Report;
 use crate::trace_told::Trace;
-use crate::words::found_at;
+use crate::words::word_at;
+use dk_base::answer::Answer;
 use dk_base::error::NoMemory;
+use dk_base::event::{Event, What};
 use dk_base::number::Tid;
-use script_line::keyword::Keyword;
-use script_line::keyword_words::keyword_of;
 use std::alloc::Global;
-
-/// The latest version of the language.
-const LATEST: u32 = 4;
 
 /// Paths of a greater number are not named.
 const LAST_PATH: usize = 4095;
 
 /// A thread of a script.
 #[derive(Clone, Copy)]
-pub(crate) struct Thread<'a> {
+pub struct Thread<'a> {
     pub number: Tid,
-    pub name: &'a [u8],
-    pub process: u64,
-    pub process_name: &'a [u8],
-    pub is_spare: bool,
-    pub is_in_child: bool,
+    pub(crate) name: &'a [u8],
+    pub(crate) process: u64,
+    pub(crate) process_name: &'a [u8],
+    pub(crate) is_spare: bool,
+    pub(crate) is_in_child: bool,
     /// It can take a turn.
     pub is_runnable: bool,
 }
 
-impl<'a> Thread<'a> {
-    /// Goes on by a line. Whether that begins a thread, which this is then.
-    fn next(&mut self, line: &'a [u8]) -> bool {
-        let role = role_of_line(line);
-        match role {
-            Role::Process | Role::Child => {
-                self.process = self.process.saturating_add(1);
-                self.process_name = found_at(line, 1).word;
-                self.is_in_child = matches!(role, Role::Child);
-                false
-            }
-            Role::Thread | Role::Spare => {
-                self.number = Tid(self.number.0.saturating_add(1));
-                self.name = found_at(line, 1).word;
-                self.is_spare = matches!(role, Role::Spare);
-                true
-            }
-            _ => false,
-        }
-    }
-}
-
-/// How many events a run has, what its threads did, where that is asked for, and what its script declares: the threads, in order, and the
-/// paths, in the order of their first uses.
+/// A run that is taken again by the lines of its trace: how many events it has, and what its threads did, where that is asked for.
 #[derive(Drop)]
-pub(crate) struct Replay<'a> {
-    pub events: u64,
-    pub acts: Vec<Act>,
+pub struct Run<'a> {
+    /// The script.
+    pub(crate) text: &'a [u8],
+    /// What the script declares, in order.
     pub threads: Vec<Thread<'a>>,
-    pub paths: Names<'a>,
+    /// In the order of their first uses.
+    pub(crate) paths: Names<'a>,
+    pub(crate) acts: Vec<Act>,
+    pub(crate) events: u64,
+    /// The lines of the trace that are left.
+    lines: Lines<'a>,
+    /// The line of the trace that is not legal.
+    last: u64,
+    /// Whether the trace has that line.
+    pub(crate) has_last: bool,
+    keeps_acts: bool,
 }
 
-impl<'a> Replay<'a> {
-    /// Adds what the turns did of the lines of a trace before the one that is not legal, up to a line that is no event or whose thread
-    /// cannot take a turn.
-    fn take_turns<P: Player>(
-        &mut self,
-        player: &mut P,
-        trace: &Trace<'_>,
-        is_asked: bool,
-    ) -> Result<(), NoMemory> {
-        let mut lines = Lines::new(trace.text);
-        for _ in 1..trace.line {
-            let Some((_, line)) = lines.next() else {
-                break;
-            };
-            if !is_event(line) {
-                break;
-            }
-            let Some(act) = player.take(line)? else {
-                break;
-            };
-            self.events = self.events.saturating_add(1);
-            if is_asked && self.acts.push(act).is_err() {
-                return Err(NoMemory);
-            }
-        }
-        Ok(())
-    }
-
-    /// Adds the path that a line names.
-    fn add_path(&mut self, line: &'a [u8]) -> Result<(), NoMemory> {
-        let place = match keyword_of(LATEST, found_at(line, 0).word) {
-            Some(Keyword::Attach | Keyword::Open) => 2,
-            Some(Keyword::Detach | Keyword::Await) => 1,
-            _ => return Ok(()),
+impl<'a> Run<'a> {
+    /// Before the first event.
+    pub(crate) fn new(
+        alloc: Global,
+        report: &mut Report,
+        text: &'a [u8],
+        trace: &Trace<'a>,
+        keeps_acts: bool,
+    ) -> Self {
+        let mut run = Run {
+            text,
+            threads: Vec::new(alloc),
+            paths: Names {
+                list: Vec::new(alloc),
+                is_lost: false,
+            },
+            acts: Vec::new(alloc),
+            events: 0,
+            lines: Lines::new(trace.text),
+            last: trace.line,
+            has_last: false,
+            keeps_acts,
         };
-        if self.paths.at(LAST_PATH).is_some() {
-            return Ok(());
-        }
-        self.paths.add(found_at(line, place).word)
-    }
-
-    /// Adds what the lines of a script declare.
-    fn add_lines<P: Player>(&mut self, player: &P, text: &'a [u8]) -> Result<(), NoMemory> {
         let mut thread = Thread {
             number: Tid(0),
             name: &[],
@@ -117,45 +84,87 @@ impl<'a> Replay<'a> {
             is_runnable: false,
         };
         let mut lines = Lines::new(text);
-        for _ in text {
-            let Some((_, line)) = lines.next() else {
-                break;
-            };
-            self.add_path(line)?;
-            if thread.next(line) {
-                thread.is_runnable = player.is_runnable(thread.number);
-                if self.threads.push(thread).is_err() {
-                    return Err(NoMemory);
+        while lines.next() {
+            run.add_line(report, &mut thread, lines.line);
+        }
+        if run.paths.is_lost {
+            report.lose();
+        }
+        run
+    }
+
+    /// Adds what a line of the script declares, or the path that it names. `thread` is the last that is declared, in the last process.
+    fn add_line(&mut self, report: &mut Report, thread: &mut Thread<'a>, line: &'a [u8]) {
+        let form = form_of(line);
+        let name = word_at(line, 1);
+        match form.role {
+            Role::Process | Role::Child => {
+                thread.process = thread.process.saturating_add(1);
+                thread.process_name = name;
+                thread.is_in_child = matches!(form.role, Role::Child);
+            }
+            Role::Thread | Role::Spare => {
+                thread.number = Tid(thread.number.0.saturating_add(1));
+                thread.name = name;
+                thread.is_spare = matches!(form.role, Role::Spare);
+                if self.threads.push(*thread).is_err() {
+                    report.lose();
+                }
+            }
+            _ => {
+                let path = match form.operands {
+                    [Operand::Path, ..] => name,
+                    [_, Operand::Path, ..] => word_at(line, 2),
+                    _ => return,
+                };
+                if self.paths.list.len() <= LAST_PATH {
+                    self.paths.add(path);
                 }
             }
         }
-        Ok(())
     }
 
-    /// Adds all of the run that is taken again by the lines of a trace. What the threads did is kept where it is asked for.
-    pub(crate) fn read<P: Player>(
-        &mut self,
-        alloc: Global,
-        text: &'a [u8],
-        trace: &Trace<'_>,
-        is_asked: bool,
-    ) -> Result<(), NoMemory> {
-        match P::start(alloc, text) {
-            Some(mut player) => {
-                self.take_turns(&mut player, trace, is_asked)?;
-                self.add_lines(&player, text)
+    /// The next line of the trace, where it is that of an event and stands before the one that is not legal; else no bytes.
+    pub fn next_line(&mut self) -> &'a [u8] {
+        if self.lines.next() {
+            self.has_last = self.lines.number >= self.last;
+            if !self.has_last && is_event(self.lines.line) {
+                return self.lines.line;
             }
-            None => Err(NoMemory),
+        }
+        &[]
+    }
+
+    /// Adds what a thread did at an event, by the subject of its turn's request, or of the request whose wait its turn ended.
+    pub fn add(&mut self, event: &Event, subject: Subject) -> Result<(), NoMemory> {
+        self.events = u64::from(event.number);
+        if !self.keeps_acts {
+            return Ok(());
+        }
+        let mut what = event.what;
+        let mut number = subject.number;
+        let mut error = "";
+        match event.answer {
+            Answer::WaitCall { call } => number = call,
+            Answer::Entered { call, .. } => {
+                what = What::Accept;
+                number = call;
+            }
+            Answer::Child { process } => number = process.0,
+            Answer::Failure(errno) => error = errno.name(),
+            _ => {}
+        }
+        let act = Act {
+            event: self.events,
+            thread: event.thread,
+            what,
+            number: u64::from(number),
+            wanted: u64::from(subject.wanted),
+            error,
+        };
+        match self.acts.push(act) {
+            Ok(()) => Ok(()),
+            Err(_) => Err(NoMemory),
         }
     }
-}
-
-/// The text of a script, what it declares, what its threads did, and how many events the run has.
-#[derive(Clone, Copy)]
-pub(crate) struct Run<'r, 'a> {
-    pub text: &'a [u8],
-    pub threads: &'r [Thread<'a>],
-    pub paths: &'r Names<'a>,
-    pub acts: &'r [Act],
-    pub events: u64,
 }

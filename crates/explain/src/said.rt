@@ -1,6 +1,6 @@
 //! All that is said of bad lines, and in warnings on lines.
 
-use crate::case::{Case, Key};
+use crate::case::Case;
 use crate::operand::{columns, told_of};
 use crate::outline::line_at;
 use crate::rule::{is_listed, is_passed};
@@ -10,7 +10,12 @@ use script_text::lines::next_line;
 #[derive(Clone, Copy)]
 pub(crate) enum Topic {
     Byte = 1,
+    OrderMark,
+    Quote,
+    High,
     Header,
+    Empty,
+    Spaced,
     Many,
     Body,
     Open,
@@ -22,9 +27,6 @@ pub(crate) enum Topic {
     NoWord,
     Lone,
     Brackets,
-    Wanted,
-    /// The same in a script of version 1.
-    WantedFirst,
     Whole,
     Missing,
     Range,
@@ -49,7 +51,12 @@ pub(crate) enum Topic {
 
 static TOPICS: &str = "\
 byte
+order-mark
+quote
+high
 header
+empty
+spaced
 many
 body
 open
@@ -61,8 +68,6 @@ near
 no-word
 lone
 brackets
-wanted
-wanted-1
 whole
 missing
 range
@@ -87,12 +92,12 @@ static SAID: &str = "\
 byte|[\t|doors: line %n: a tab ('%w') in column %o%e%s    indent and separate words with spaces%e
 byte|=\r|doors: line %n: a carriage return ('%w') in column %o%e%s    lines end with a line feed alone: tr -d '\\r' takes carriage returns out%e
 byte|[\r|doors: line %n: a carriage return ('%w') in column %o%e%s    tr '\\r' '\\n' makes line feeds of carriage returns%e
-byte|=order-mark|doors: line %n: a byte above 0x7e ('%w') in column %o%e%s    where it is a byte order mark at the start of the file, save it without; in a string write \\xef%e
-byte|=quote|doors: line %n: a byte above 0x7e ('%w') in column %o%e%s    where it is a typographic quote, write \"; in a string such a byte is written \\xHH; elsewhere it has no place%e
-byte|=high|doors: line %n: a byte above 0x7e ('%w') in column %o%e%s    in a string such a byte is written \\xHH; elsewhere it has no place%e
+order-mark||doors: line %n: a byte above 0x7e ('%w') in column %o%e%s    where it is a byte order mark at the start of the file, save it without; in a string write \\xef%e
+quote||doors: line %n: a byte above 0x7e ('%w') in column %o%e%s    where it is a typographic quote, write \"; in a string such a byte is written \\xHH; elsewhere it has no place%e
+high||doors: line %n: a byte above 0x7e ('%w') in column %o%e%s    in a string such a byte is written \\xHH; elsewhere it has no place%e
 byte||doors: line %n: a control byte ('%w') in column %o%e%s    in a string such a byte is written \\xHH; elsewhere it has no place%e
-header|=empty|doors: line 1: the input is empty%e    the first line is exactly 'doors script 1', or 2, 3 or 4 in place of 1; comments come after it%e
-header|=spaced|doors: line 1: a space too many stands in '%l'%e    the first line is exactly 'doors script 1', or 2, 3 or 4 in place of 1; comments come after it%e
+empty||doors: line 1: the input is empty%e    the first line is exactly 'doors script 1', or 2, 3 or 4 in place of 1; comments come after it%e
+spaced||doors: line 1: a space too many stands in '%l'%e    the first line is exactly 'doors script 1', or 2, 3 or 4 in place of 1; comments come after it%e
 header||doors: line 1: a script does not begin so%e    %l%e    the first line is exactly 'doors script 1', or 2, 3 or 4 in place of 1; comments come after it%e
 many|=process child|doors: line %n: a 65th process; a script has at most 64, children with them%e    %l%e
 many|=thread spare|doors: line %n: a 65th thread; a script has at most 64, spares with them%e    %l%e
@@ -130,14 +135,14 @@ after-header after-budget in-process|=budget|doors: line %n: '%w' stands once, b
 after-header after-budget in-process|=end|doors: line %n: '%w' closes a thread, a procedure, a 'repeat' or an 'if', and none is open: a process and a spare have no 'end'%e%s
 after-header after-budget in-process|=thread spare proc|doors: line %n: '%w' stands in a process, and none is open here%e%s
 after-header after-budget in-process||doors: line %n: '%w' stands in a thread or a procedure, and none is open here%e%s
-wanted|=after-header|    wanted here: budget, process, child or schedule%e
-wanted-1|=after-header|    wanted here: budget, process or schedule%e
-wanted|=after-budget|    wanted here: process, child or schedule%e
-wanted-1|=after-budget|    wanted here: process or schedule%e
-wanted|=in-process|    wanted here: thread, spare, proc, process, child or schedule%e
-wanted-1|=in-process|    wanted here: thread, spare, proc, process or schedule%e
-wanted wanted-1|=after-schedule|    after a line 'schedule' only more of them and comments may stand%e
-wanted wanted-1||    wanted here: a command, repeat, if or end%e
+1|=after-header|    wanted here: budget, process or schedule%e
+2 3 4|=after-header|    wanted here: budget, process, child or schedule%e
+1|=after-budget|    wanted here: process or schedule%e
+2 3 4|=after-budget|    wanted here: process, child or schedule%e
+1|=in-process|    wanted here: thread, spare, proc, process or schedule%e
+2 3 4|=in-process|    wanted here: thread, spare, proc, process, child or schedule%e
+1 2 3 4|=after-schedule|    after a line 'schedule' only more of them and comments may stand%e
+1 2 3 4|=in-body in-block after-block|    wanted here: a command, repeat, if or end%e
 whole|=create|doors: line %n: an attribute stands twice%e    %l%e    the form: %f%e
 whole|=sendn|doors: line %n: more than 16 ports%e    %l%e    the form: %f%e
 whole|=call return|doors: line %n: more than 32 descriptors after 'desc'%e    %l%e    the form: %f%e
@@ -211,24 +216,22 @@ fn rows() -> &'static [u8] {
 }
 
 /// What is said by a row, without words where nothing is.
-pub(crate) fn said_of(case: &Case<'_, '_>, key: Key<'_>) -> &'static [u8] {
-    let topic = match key.topic {
+pub(crate) fn said_of(case: &Case<'_, '_>, topic: Topic, word: &[u8]) -> &'static [u8] {
+    let topic = match topic {
         Topic::Class => told_of(case.operand).class,
         Topic::Place => case.at.place_word(),
         Topic::Version => case.at.text.get(13..14).unwrap_or(&[]),
         topic => line_at(TOPICS.as_bytes(), topic as u64),
     };
     let mut rest = rows();
-    for _ in 0..rest.len() {
-        let Some((row, later)) = next_line(rest) else {
-            break;
-        };
+    while let Some((row, later)) = next_line(rest) {
         let (of, row) = columns(row);
         let (test, said) = columns(row);
-        if is_listed(of, topic) && is_passed(test, key.word) {
+        if is_listed(of, topic) && is_passed(test, word) {
             return said;
         }
         rest = later;
     }
-    &[]
+    // no bytes are left
+    rest
 }

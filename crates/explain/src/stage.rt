@@ -1,7 +1,6 @@
 //! Which operand is wanted next in a line, word by word.
 
 use crate::case::Case;
-use crate::form::Form;
 use crate::operand::{Operand, after_mark, reading_of};
 use crate::report::Report;
 use crate::words::found_at;
@@ -10,10 +9,12 @@ use std::alloc::Global;
 
 /// What may follow an operand, where the line has no other operand in any case.
 fn after(operand: Operand, tail: Operand) -> Operand {
-    match (operand, tail) {
-        (Operand::Rsize | Operand::Limit | Operand::End, _) => Operand::End,
-        (Operand::Pass | Operand::PassOrRsize, Operand::AfterCalled) => Operand::PassOrRsize,
-        (Operand::Pass | Operand::NextPass, _) => Operand::NextPass,
+    match operand {
+        Operand::Rsize | Operand::Limit | Operand::End => Operand::End,
+        Operand::Pass | Operand::NextPass | Operand::PassOrRsize => match tail {
+            Operand::AfterCalled => Operand::PassOrRsize,
+            _ => Operand::NextPass,
+        },
         _ => tail,
     }
 }
@@ -24,23 +25,25 @@ pub(crate) fn find_wrong_word(
     alloc: Global,
     report: &mut Report,
     case: &mut Case<'_, '_>,
-    form: &Form,
     is_range: bool,
 ) -> bool {
-    let line = case.at.line;
-    case.found = found_at(line, 0);
+    let form = case.at.form;
+    let mut operands: &[Operand] = &form.operands;
     let mut next = form.tail;
-    for place in 0..line.len() {
+    loop {
         let mut is_needed = true;
-        case.operand = match form.operands.get(place) {
-            None | Some(Operand::End) => {
+        case.operand = match operands {
+            [] | [Operand::End, ..] => {
                 is_needed = matches!(
                     next,
                     Operand::Piece | Operand::Pass | Operand::Rsize | Operand::Limit
                 );
                 next
             }
-            Some(operand) => *operand,
+            [operand, later @ ..] => {
+                operands = later;
+                *operand
+            }
         };
         case.found = found_at(case.found.rest, 0);
         let word = case.found.word;
@@ -62,5 +65,4 @@ pub(crate) fn find_wrong_word(
             }
         };
     }
-    false
 }

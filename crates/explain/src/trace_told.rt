@@ -3,12 +3,12 @@
 use crate::bad_line::number_of;
 use crate::messages::{Message, Said, tell};
 use crate::near::without_front;
-use crate::outline::{Lines, line_at};
+use crate::outline::line_at;
 use crate::player::is_event;
 use crate::report::Report;
 use crate::run::Run;
 use crate::run_told::{tell_able, tell_named};
-use crate::words::found_at;
+use crate::words::word_at;
 
 /// A trace, and what `check` says of it where it is not legal.
 #[derive(Clone, Copy)]
@@ -27,40 +27,29 @@ fn told_line(output: &[u8], number: u64) -> &[u8] {
 }
 
 impl<'a> Trace<'a> {
-    /// A trace that the program wrote.
-    pub(crate) fn legal(text: &'a [u8]) -> Self {
-        Trace {
-            text,
+    /// The trace that `check` was given, and what its answer tells of it; or the answer of another command, which is one.
+    pub(crate) fn new(given: Option<&'a [u8]>, answer: &'a [u8]) -> Self {
+        let mut trace = Trace {
+            text: answer,
             line: u64::MAX,
             want: &[],
             have: &[],
+        };
+        if let Some(text) = given {
+            trace.text = text;
+            trace.line = number_of(word_at(line_at(answer, 1), 2));
+            trace.want = told_line(answer, 2);
+            trace.have = told_line(answer, 3);
         }
+        trace
     }
-
-    /// Adds what an answer tells of it.
-    pub(crate) fn add(&mut self, output: &'a [u8]) {
-        if let Some(line) = number_of(found_at(line_at(output, 1), 2).word) {
-            self.line = line;
-            self.want = told_line(output, 2);
-            self.have = told_line(output, 3);
-        }
-    }
-}
-
-/// Whether a text has a line of this number.
-fn has_line(text: &[u8], number: u64) -> bool {
-    let mut lines = Lines::new(text);
-    for _ in 1..number {
-        let _before = lines.next();
-    }
-    lines.next().is_some()
 }
 
 /// No event can stand in the line.
-pub(crate) fn tell_no_turn(report: &mut Report, run: &Run<'_, '_>, trace: &Trace<'_>) {
+pub(crate) fn tell_no_turn(report: &mut Report, run: &Run<'_>, trace: &Trace<'_>) {
     tell(report, Said::LineOfTrace, trace.line);
     let line = trace.have;
-    let name = found_at(line, 1).word;
+    let name = word_at(line, 1);
     if is_event(line) && !name.is_empty() {
         tell_named(report, run, name);
     } else {
@@ -70,7 +59,7 @@ pub(crate) fn tell_no_turn(report: &mut Report, run: &Run<'_, '_>, trace: &Trace
             Said::EndTooEarly
         } else if !line.is_empty() {
             Said::NoLineOfEvent
-        } else if has_line(trace.text, trace.line) {
+        } else if run.has_last {
             Said::EmptyLine
         } else {
             Said::TraceTooShort
@@ -83,9 +72,10 @@ pub(crate) fn tell_no_turn(report: &mut Report, run: &Run<'_, '_>, trace: &Trace
 /// Another line is wanted.
 pub(crate) fn tell_other(report: &mut Report, trace: &Trace<'_>) {
     let Trace { want, have, .. } = *trace;
+    let is_tail = want.is_empty();
     let why = if have.starts_with(b"refused turn ") {
         Said::RefusedTurnThere
-    } else if want.is_empty() {
+    } else if is_tail {
         Said::TailWanted
     } else if want.starts_with(b"end ") {
         Said::EndWanted
@@ -93,13 +83,13 @@ pub(crate) fn tell_other(report: &mut Report, trace: &Trace<'_>) {
         Said::OtherWanted
     };
     tell(report, why, trace.line);
-    let said = match have.last() {
-        None if want.is_empty() => Said::NoLines,
-        None => Said::NothingThere,
-        Some(_) if want.is_empty() => Said::NothingWanted,
-        Some(b'\r') => Said::EndsWithReturn,
-        Some(b' ') => Said::EndsWithSpace,
-        Some(_) => Said::Differ,
+    let said = match have {
+        [] if is_tail => Said::NoLines,
+        [] => Said::NothingThere,
+        _ if is_tail => Said::NothingWanted,
+        [.., b'\r'] => Said::EndsWithReturn,
+        [.., b' '] => Said::EndsWithSpace,
+        _ => Said::Differ,
     };
     let same = want.len().saturating_sub(without_front(want, have).0.len());
     let lines = Message {
