@@ -3,12 +3,12 @@
 use crate::case::Case;
 use crate::names_told::{find_twice, find_unknown};
 use crate::operands_told::find_wrong;
-use crate::outline::{Walk, line_at, walk_to};
+use crate::outline::{line_at, walk_to};
 use crate::place_told::find_place;
 use crate::report::Report;
 use crate::rule::{is_listed, is_same};
 use crate::said::Topic;
-use crate::words::{Found, found_at, word_at};
+use crate::words::{Found, word_at};
 use script_line::reason::Reason;
 use script_text::number::{Number, bounded_number};
 use script_text::string::is_printable;

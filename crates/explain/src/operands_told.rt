@@ -11,7 +11,7 @@ use std::alloc::Global;
 fn find_slip_of_string(case: &mut Case<'_, '_>) {
     case.slip = Topic::Unclosed;
     let mut rest = case.found.word;
-    // of the opening quote no more is known than of a byte after a backslash
+    // the opening quote is passed over, as a byte after a backslash is
     let mut is_escaped = true;
     while let [byte, later @ ..] = rest {
         rest = later;
