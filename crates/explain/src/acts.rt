@@ -14,14 +14,20 @@ pub struct Subject {
 impl Subject {
     /// Takes the request, so that no holder of a whole run drops one.
     pub fn of(request: Request) -> Self {
-        let (number, wanted) = match &request {
-            Request::Kill { process } => (process.0, 0),
-            Request::Attach { path, .. } | Request::Detach { path } | Request::Await { path } => {
-                (path.0, 0)
+        let mut wanted = 0;
+        let number = match &request {
+            Request::Kill { process } => process.0,
+            Request::Attach { path, .. } | Request::Detach { path } | Request::Await { path } =>
+                path.0,
+            Request::Get { port, .. } => {
+                wanted = 1;
+                port.0
             }
-            Request::Get { port, .. } => (port.0, 1),
-            Request::GetN { port, nget, .. } => (port.0, *nget),
-            _ => (0, 0),
+            Request::GetN { port, nget, .. } => {
+                wanted = *nget;
+                port.0
+            }
+            _ => 0,
         };
         Subject { number, wanted }
     }
@@ -38,5 +44,5 @@ pub(crate) struct Act {
     /// How many events of a port it wants.
     pub wanted: u64,
     /// The name of the error that it answered, or nothing.
-    pub error: &'static str,
+    pub error: &'static [u8],
 }

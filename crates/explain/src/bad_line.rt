@@ -6,7 +6,7 @@ use crate::operands_told::find_wrong;
 use crate::outline::{line_at, walk_to};
 use crate::place_told::find_place;
 use crate::report::Report;
-use crate::rule::{is_listed, is_same};
+use crate::rule::{begins_with_digit, is_listed, is_same};
 use crate::said::Topic;
 use crate::words::{Found, word_at};
 use script_line::reason::Reason;
@@ -14,7 +14,7 @@ use script_text::number::{Number, bounded_number};
 use script_text::string::is_printable;
 use std::alloc::Global;
 
-/// What `bad line N REASON` says.
+/// What `bad line N REASON` says. The number is 0 where nothing is said of a bad line: lines are numbered from 1.
 #[derive(Clone, Copy)]
 pub struct BadLine {
     pub number: u64,
@@ -45,21 +45,22 @@ pub fn number_of(word: &[u8]) -> u64 {
 }
 
 /// What an output says of a bad line.
-pub fn bad_line_of(output: &[u8]) -> Option<BadLine> {
+pub fn bad_line_of(output: &[u8]) -> BadLine {
+    let mut bad = BadLine {
+        number: 0,
+        reason: Reason::Trace,
+    };
     let line = line_at(output, 1);
-    if !line.starts_with(b"bad line ") {
-        return None;
-    }
-    let word = word_at(line, 3);
-    for reason in &REASONS {
-        if is_same(reason.word().as_bytes(), word) {
-            return Some(BadLine {
-                number: number_of(word_at(line, 2)),
-                reason: *reason,
-            });
+    if line.starts_with(b"bad line ") {
+        let word = word_at(line, 3);
+        for reason in &REASONS {
+            if is_same(reason.word().as_bytes(), word) {
+                bad.number = number_of(word_at(line, 2));
+                bad.reason = *reason;
+            }
         }
     }
-    None
+    bad
 }
 
 /// Of a line with a byte that no script has.
@@ -87,7 +88,7 @@ fn find_byte(case: &mut Case<'_, '_>) {
 }
 
 /// The words of a first line, each one of these.
-static HEADER: [&str; 3] = ["doors", "script", "1 2 3 4"];
+static HEADER: [&[u8]; 3] = [b"doors", b"script", b"1 2 3 4"];
 
 /// Of a first line that is not that of a script.
 fn find_header(case: &mut Case<'_, '_>) {
@@ -97,7 +98,7 @@ fn find_header(case: &mut Case<'_, '_>) {
         return;
     }
     for (place, words) in HEADER.iter().enumerate() {
-        if !is_listed(words.as_bytes(), word_at(case.at.line, place)) {
+        if !is_listed(words, word_at(case.at.line, place)) {
             return;
         }
     }
@@ -120,8 +121,10 @@ pub fn tell_bad_line(alloc: Global, report: &mut Report, text: &[u8], bad: BadLi
         }
         Reason::Many => case.said = Topic::Many,
         Reason::Body => case.said = Topic::Body,
-        Reason::Form => find_wrong(alloc, report, case, false),
-        Reason::Range => find_wrong(alloc, report, case, true),
+        Reason::Form | Reason::Range => {
+            let is_range = matches!(bad.reason, Reason::Range);
+            find_wrong(alloc, report, case, is_range);
+        }
         Reason::Twice => find_twice(case),
         Reason::Unknown => find_unknown(case),
         _ => find_place(case),
@@ -129,9 +132,13 @@ pub fn tell_bad_line(alloc: Global, report: &mut Report, text: &[u8], bad: BadLi
     case.tell(report);
 }
 
-/// Of an input of `check` without a line `trace`: that the bad line ends with this word, and has another before it or in it.
+/// Of an input of `check` without a line `trace`: that the bad line ends with this word, and has another before it or in it; or where that
+/// is the line of an event, the line before it.
 pub fn tell_joined(report: &mut Report, number: u64, text: &[u8]) {
-    let line = line_at(text, number);
+    let mut line = line_at(text, number);
+    if begins_with_digit(line) {
+        line = line_at(text, number.saturating_sub(1));
+    }
     let first = word_at(line, 0);
     if !first.starts_with(b"#") && !is_listed(b"trace", first) && line.ends_with(b"trace") {
         report.put(

@@ -53,51 +53,51 @@ impl<'c, 'a> Case<'c, 'a> {
     }
 
     /// Tells a fact by its letter in templates; `key` is the word that the template is told for.
-    fn tell_fact(&self, report: &mut Report, fact: u8, key: &'a [u8]) {
+    fn tell_fact(self, report: &mut Report, fact: u8, key: &'a [u8]) {
         let at = self.at;
-        let number = match fact {
-            b'n' => Some(at.number),
-            b'o' => Some(self.other),
-            // the line that begins the thread or procedure
-            b't' => Some(at.body),
-            // how many lines `end` are missing
-            b'm' => Some(at.depth.saturating_add(1)),
-            // from where to where the operand's numbers go
-            b'r' => Some(range_of(self.operand).0),
-            b'q' => Some(range_of(self.operand).1),
-            _ => None,
-        };
-        if let Some(number) = number {
-            return report.number(number);
-        }
-        let words: &[u8] = match fact {
-            b'e' => return report.put(b"\n"),
-            b'w' => self.found.word,
-            b'l' => at.line,
+        let mut line = 0;
+        let mut place = 1;
+        match fact {
+            b'e' => report.put(b"\n"),
+            b'w' => report.word(self.found.word),
+            b'l' => report.word(at.line),
             // the line, and below it marks under the word: lines of their own
-            b's' => return report.show(at.line, self.found),
-            // the first two words of the other line, the same of the line that begins the thread or procedure, and the name of the
-            // process
-            b'x' | b'y' | b'i' | b'j' | b'p' => {
-                let line = match fact {
-                    b'x' | b'y' => self.other,
-                    b'p' => at.process,
-                    _ => at.body,
-                };
-                let place = if matches!(fact, b'x' | b'i') { 0 } else { 1 };
-                word_at(line_at(at.text, line), place)
+            b's' => report.show(at.line, self.found),
+            b'n' => report.number(at.number),
+            b'o' => report.number(self.other),
+            // the line that begins the thread or procedure
+            b't' => report.number(at.body),
+            // how many lines `end` are missing
+            b'm' => report.number(at.depth.saturating_add(1)),
+            // from where to where the operand's numbers go
+            b'r' => report.number(range_of(self.operand).0),
+            b'q' => report.number(range_of(self.operand).1),
+            // the first two words of the other line
+            b'x' => {
+                line = self.other;
+                place = 0;
             }
+            b'y' => line = self.other,
+            // the same of the line that begins the thread or procedure
+            b'i' => {
+                line = at.body;
+                place = 0;
+            }
+            b'j' => line = at.body,
+            // the name of the process
+            b'p' => line = at.process,
             // the declared names of the kind that is wanted
-            b'd' => return tell_names(report, at, self.kind),
-            b'f' => at.form.text.as_bytes(),
+            b'd' => tell_names(report, at, self.kind),
+            b'f' => report.word(at.form.text.as_bytes()),
             // the operand as the form names it
-            b'a' => told_of(self.operand).name,
+            b'a' => report.word(told_of(self.operand).name),
             // which words the operand is
-            b'u' => told_of(self.operand).meaning,
+            b'u' => report.word(told_of(self.operand).meaning),
             // the word that the row is told for
-            _ => key,
-        };
-        report.word(words);
+            _ => report.word(key),
+        }
+        // no line has the number 0
+        report.word(word_at(line_at(at.text, line), place));
     }
 
     fn fill(&self, report: &mut Report, topic: Topic, key: &'a [u8]) {

@@ -5,39 +5,40 @@ use crate::near::is_near;
 use crate::report::Report;
 use crate::rule::is_same;
 
-static COMMANDS: [&str; 5] = ["play", "run", "show", "check", "load"];
+static COMMANDS: [&[u8]; 5] = [b"play", b"run", b"show", b"check", b"load"];
 
 /// What is wrong with the words of the command line.
 pub(crate) fn tell_words(report: &mut Report, words: &[&str]) {
-    let [name, rest @ ..] = words else {
+    if words.is_empty() {
         return tell(report, Said::NoCommand, 0);
-    };
-    let name = name.as_bytes();
+    }
+    let name = words[0].as_bytes();
     let mut said = Said::UnknownCommand;
     let mut near = name;
     for command in &COMMANDS {
-        let command = command.as_bytes();
-        if is_same(command, name) {
-            said = if !is_same(name, b"load") {
-                Said::WordTooMany
-            } else if rest.len() == 1 {
-                Said::WrongLoad
-            } else {
-                Said::LoadTakesOne
-            };
+        let command = *command;
+        if is_same(name, command) {
+            said = Said::WordTooMany;
         } else if is_near(name, command) {
             said = Said::NearlyCommand;
             near = command;
         }
     }
+    if is_same(name, b"load") {
+        said = Said::LoadTakesOne;
+        if words.len() == 2 {
+            said = Said::WrongLoad;
+        }
+    }
+    let mut by: &[u8] = &[];
+    if words.len() > 1 {
+        by = words[1].as_bytes();
+    }
     let message = Message {
         said,
         name,
         word: near,
-        by: match rest {
-            [word, ..] => word.as_bytes(),
-            [] => &[],
-        },
+        by,
         event: 0,
         number: 0,
         other: 0,

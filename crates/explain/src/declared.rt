@@ -2,7 +2,7 @@
 
 use crate::form::Role;
 use crate::near::is_near;
-use crate::outline::{Place, Walk, line_at};
+use crate::outline::{Walk, line_at};
 use crate::report::Report;
 use crate::rule::is_same;
 use crate::words::word_at;
@@ -20,35 +20,28 @@ pub(crate) enum Kind {
 /// Which names are looked for.
 #[derive(Clone, Copy)]
 pub(crate) enum Sought {
-    Any,
+    /// Those of lines after this one.
+    After(u64),
     /// This one.
     Same,
     /// Those that are nearly this one.
     Near,
 }
 
-/// The line that first declares such a name for the line `at`, after a line; 0 where there is none. Of procedures those count that
-/// are of the same process.
-pub(crate) fn declaration_of(
-    at: &Walk<'_>,
-    kind: Kind,
-    sought: Sought,
-    name: &[u8],
-    after: u64,
-) -> u64 {
+/// The line that first declares such a name for the line `at`; 0 where there is none. Of procedures those count that are of the
+/// same process.
+pub(crate) fn declaration_of(at: &Walk<'_>, kind: Kind, sought: Sought, name: &[u8]) -> u64 {
     let mut walk = Walk::new(at.text);
     while walk.next() {
-        let role = walk.form.role;
         let is_one = match kind {
-            _ if matches!(walk.place, Place::Body | Place::Block | Place::AfterBlock) => false,
-            Kind::Process => matches!(role, Role::Process | Role::Child),
-            Kind::Thread => matches!(role, Role::Thread | Role::Spare),
-            Kind::Procedure => matches!(role, Role::Proc) && walk.process == at.process,
+            Kind::Process => matches!(walk.form.role, Role::Process | Role::Child),
+            Kind::Thread => matches!(walk.form.role, Role::Thread | Role::Spare),
+            Kind::Procedure => matches!(walk.form.role, Role::Proc) && walk.process == at.process,
         };
-        if is_one && walk.number > after {
+        if is_one && walk.body == 0 {
             let declared = word_at(walk.line, 1);
             let is_sought = match sought {
-                Sought::Any => true,
+                Sought::After(line) => walk.number > line,
                 Sought::Same => is_same(declared, name),
                 Sought::Near => is_near(declared, name),
             };
@@ -66,7 +59,7 @@ const NAMES_MAX: u64 = 16;
 /// The declared names, each after a space.
 pub(crate) fn tell_names(report: &mut Report, at: &Walk<'_>, kind: Kind) {
     let nothing: &[u8] = &[];
-    let mut line = declaration_of(at, kind, Sought::Any, nothing, 0);
+    let mut line = declaration_of(at, kind, Sought::After(0), nothing);
     if line == 0 {
         return report.put(b" none");
     }
@@ -78,6 +71,6 @@ pub(crate) fn tell_names(report: &mut Report, at: &Walk<'_>, kind: Kind) {
         left -= 1;
         report.put(b" ");
         report.word(word_at(line_at(at.text, line), 1));
-        line = declaration_of(at, kind, Sought::Any, nothing, line);
+        line = declaration_of(at, kind, Sought::After(line), nothing);
     }
 }

@@ -1,6 +1,7 @@
 //! The forms of lines.
 
 use crate::operand::Operand;
+use crate::rule::is_same;
 use crate::words::word_at;
 
 /// What a word is that begins a line.
@@ -352,7 +353,7 @@ pub(crate) static NO_FORM: Form = Form {
 pub(crate) fn form_of(line: &[u8]) -> &'static Form {
     let word = word_at(line, 0);
     for form in forms() {
-        if word_at(form.text.as_bytes(), 0) == word {
+        if is_same(word_at(form.text.as_bytes(), 0), word) {
             return form;
         }
     }

@@ -38,6 +38,7 @@ pub(crate) enum Said {
     NothingWanted,
     NothingThere,
     Differ,
+    OtherNumber,
     EndsWithReturn,
     EndsWithSpace,
     NoThread,
@@ -66,7 +67,7 @@ pub(crate) enum Said {
 }
 
 /// A row a line, in the order of `Said`: words, in which some bytes stand for what `Message` has, and `|` for the end of a line.
-static WORDS: &str = "\
+static WORDS: &[u8] = b"\
 doors: no thread can go on|
     threads that wait for other calls:|
     no thread waits for calls|
@@ -99,6 +100,7 @@ doors: line # of the trace: another line is wanted of this thread|
     want|    have @|
     want ~|    have|
     want ~|    have @|    they differ from byte # on|
+    want ~|    have @|    they differ in the number of the event: a line before it is missing, or there is one too many|
     want ~|    have @|    they differ from byte # on|    the line ends with a carriage return: tr -d '\\r' takes carriage returns out|
     want ~|    have @|    they differ from byte # on|    the line ends with a space|
 there is no thread '~'|
@@ -143,8 +145,8 @@ pub(crate) struct Message<'a> {
 }
 
 impl Message<'_> {
-    pub(crate) fn tell(&self, report: &mut Report) {
-        for byte in line_at(WORDS.as_bytes(), self.said as u64) {
+    pub(crate) fn tell(self, report: &mut Report) {
+        for byte in line_at(WORDS, self.said as u64) {
             match *byte {
                 b'~' => report.word(self.name),
                 b'@' => report.word(self.word),

@@ -13,8 +13,9 @@ impl<'a> Names<'a> {
     /// The first that is nearly this one, without bytes where there is none.
     pub fn near(&self, name: &[u8]) -> &'a [u8] {
         for other in self.list.as_slice() {
+            let other = *other;
             if is_near(other, name) {
-                return *other;
+                return other;
             }
         }
         &[]
@@ -22,10 +23,12 @@ impl<'a> Names<'a> {
 
     /// Adds a name. Whether it was not there.
     pub fn add(&mut self, name: &'a [u8]) -> bool {
-        let is_new = !self.list.contains(&name);
-        if is_new && self.list.push(name).is_err() {
+        if self.list.contains(&name) {
+            return false;
+        }
+        if self.list.push(name).is_err() {
             self.is_lost = true;
         }
-        is_new
+        true
     }
 }

@@ -5,8 +5,7 @@ use crate::declared::{Kind, Sought, declaration_of};
 use crate::form::Role;
 use crate::outline::line_at;
 use crate::said::Topic;
-use crate::words::{Found, found_at, word_at};
-use script_text::words::next_word;
+use crate::words::{found_at, word_at};
 
 /// Of a line that declares a name that an earlier line declares.
 pub(crate) fn find_twice(case: &mut Case<'_, '_>) {
@@ -18,26 +17,26 @@ pub(crate) fn find_twice(case: &mut Case<'_, '_>) {
     };
     case.said = Topic::Twice;
     case.found = found_at(at.line, 1);
-    case.other = declaration_of(at, kind, Sought::Same, case.found.word, 0);
+    case.other = declaration_of(at, kind, Sought::Same, case.found.word);
 }
 
-static KINDS: [Kind; 3] = [Kind::Process, Kind::Thread, Kind::Procedure];
-
-/// Notes what was meant by a name of this kind that is not declared: one that is nearly the same, or one of another kind, by the first
-/// word of the line that declares it.
-fn find_meant_name(case: &mut Case<'_, '_>, kind: Kind, name: &[u8]) {
+/// Notes what was meant by a name that is not declared: one that is nearly the same, or one of another kind, by the first word of the
+/// line that declares it.
+fn find_meant_name(case: &mut Case<'_, '_>) {
     let at = case.at;
+    let name = case.found.word;
     let mut topic = Topic::Near;
     let mut place = 1;
-    let mut line = declaration_of(at, kind, Sought::Near, name, 0);
+    let mut line = declaration_of(at, case.kind, Sought::Near, name);
     if line == 0 {
         topic = Topic::Named;
         place = 0;
-        for kind in &KINDS {
-            line = declaration_of(at, *kind, Sought::Same, name, 0);
-            if line != 0 {
-                break;
-            }
+        line = declaration_of(at, Kind::Process, Sought::Same, name);
+        if line == 0 {
+            line = declaration_of(at, Kind::Thread, Sought::Same, name);
+        }
+        if line == 0 {
+            line = declaration_of(at, Kind::Procedure, Sought::Same, name);
         }
     }
     case.note = topic;
@@ -47,25 +46,36 @@ fn find_meant_name(case: &mut Case<'_, '_>, kind: Kind, name: &[u8]) {
 /// Of a line that names what is not declared; of the names of a `schedule` it is the first.
 pub(crate) fn find_unknown(case: &mut Case<'_, '_>) {
     let at = case.at;
-    let (kind, before) = match at.form.role {
-        Role::Child => (Kind::Process, 2),
-        Role::Kill => (Kind::Process, 0),
-        Role::Create => (Kind::Procedure, 1),
-        _ => (Kind::Thread, 0),
-    };
+    let mut kind = Kind::Thread;
+    let mut before = 0;
+    match at.form.role {
+        Role::Child => {
+            kind = Kind::Process;
+            before = 2;
+        }
+        Role::Kill => kind = Kind::Process,
+        Role::Create => {
+            kind = Kind::Procedure;
+            before = 1;
+        }
+        _ => {}
+    }
     case.kind = kind;
-    let mut rest = found_at(at.line, before).rest;
-    while let Some((word, later)) = next_word(rest) {
-        case.found = Found { word, rest: later };
-        case.other = declaration_of(at, kind, Sought::Same, word, 0);
+    let mut found = found_at(at.line, before);
+    loop {
+        found = found_at(found.rest, 0);
+        if found.word.is_empty() {
+            return;
+        }
+        case.found = found;
+        case.other = declaration_of(at, kind, Sought::Same, found.word);
         if case.other == 0 {
             case.said = Topic::Undeclared;
-            return find_meant_name(case, kind, word);
+            return find_meant_name(case);
         }
         if !matches!(at.form.role, Role::Schedule) {
             case.said = Topic::Declared;
             return;
         }
-        rest = later;
     }
 }

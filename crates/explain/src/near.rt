@@ -1,39 +1,38 @@
 //! Words that are nearly the same.
 
-/// Both words without the bytes that both begin with.
-pub fn without_front<'a>(one: &'a [u8], other: &'a [u8]) -> (&'a [u8], &'a [u8]) {
-    let mut rest = (one, other);
-    while let ([x, xs @ ..], [y, ys @ ..]) = rest {
-        if *x != *y {
-            break;
-        }
-        rest = (xs, ys);
+use crate::rule::is_same;
+
+/// How many bytes both begin with.
+pub fn front(one: &[u8], other: &[u8]) -> usize {
+    let shorter = one.len().min(other.len());
+    let mut count = 0;
+    while count < shorter && one[count] == other[count] {
+        count += 1;
     }
-    rest
+    count
+}
+
+/// A line or a word without so many bytes of its front.
+pub fn without_front(line: &[u8], count: usize) -> &[u8] {
+    line.split_at(count.min(line.len())).1
 }
 
 /// Whether one byte more, less or other makes one word of the other, or two that change places. Short words are never near.
 pub fn is_near(one: &[u8], other: &[u8]) -> bool {
-    let (long, short) = if one.len() < other.len() {
-        (other, one)
-    } else {
-        (one, other)
-    };
-    if short.len() < 3 {
+    if one.len().min(other.len()) < 3 {
         return false;
     }
-    // they differ in the first byte, if there is one
-    let (long, short) = without_front(long, short);
-    let [first, rest @ ..] = long else {
-        return false;
-    };
-    if short.ends_with(rest) {
-        return true;
-    }
-    match (rest, short) {
-        ([second, x @ ..], [head, y @ ..]) if *second == *head => {
-            y.ends_with(x) && matches!(y, [next, ..] if *next == *first)
-        }
-        _ => false,
-    }
+    let count = front(one, other);
+    let one = without_front(one, count);
+    let other = without_front(other, count);
+    let one_later = without_front(one, 1);
+    let other_later = without_front(other, 1);
+    let is_changed = !is_same(one, other);
+    let is_other = is_same(one_later, other_later);
+    let is_longer = is_same(one_later, other);
+    let is_shorter = is_same(one, other_later);
+    // each begins with the other's second byte
+    let is_crossed = (front(one, other_later) > 0) & (front(one_later, other) > 0);
+    let is_swapped = is_crossed & is_same(without_front(one, 2), without_front(other, 2));
+    is_changed & (is_other | is_longer | is_shorter | is_swapped)
 }

@@ -179,7 +179,7 @@ pub(crate) fn reading_of(
 
 /// A line for each operand, in their order: as the forms name it, its class, by which rules speak of words in its place, and
 /// which words it is, where that is no range; and the words that are no operands, and may stand in its place: `after_mark` knows them.
-static TOLD: &str = "\
+static TOLD: &[u8] = b"\
 VAR|name|a name is 1 to 16 bytes: a letter a to z, then letters a to z, digits or _
 PROC|name|a name is 1 to 16 bytes: a letter a to z, then letters a to z, digits or _
 PATH|name|a name is 1 to 16 bytes: a letter a to z, then letters a to z, digits or _
@@ -242,7 +242,7 @@ pub(crate) fn columns(row: &[u8]) -> (&[u8], &[u8]) {
 }
 
 pub(crate) fn told_of(operand: Operand) -> Told {
-    let (name, rest) = columns(line_at(TOLD.as_bytes(), operand as u64));
+    let (name, rest) = columns(line_at(TOLD, operand as u64));
     let (class, rest) = columns(rest);
     let (meaning, marks) = columns(rest);
     Told {

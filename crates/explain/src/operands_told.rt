@@ -51,8 +51,10 @@ pub(crate) fn find_wrong(
         case.said = Topic::Operand;
         case.slip = Topic::Class;
         case.slip_for = word;
-        if word.starts_with(b"\"") && matches!(case.operand, Operand::Piece) {
-            find_slip_of_string(case);
+        if let Operand::Piece = case.operand {
+            if word.starts_with(b"\"") {
+                find_slip_of_string(case);
+            }
         }
     }
 }

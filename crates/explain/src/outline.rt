@@ -25,7 +25,7 @@ pub(crate) enum Place {
 }
 
 /// The words of places, in their order.
-static PLACES: &str = "\
+static PLACES: &[u8] = b"\
 after-header
 after-budget
 in-process
@@ -60,6 +60,8 @@ impl<'a> Lines<'a> {
         ensures shorter { result ≡ true → length self.new.rest.now < length self.old.rest.now }
     {
         let Some((line, rest)) = next_line(self.rest) else {
+            // no bytes are left
+            self.line = self.rest;
             return false;
         };
         self.rest = rest;
@@ -86,17 +88,17 @@ pub fn line_at(text: &[u8], number: u64) -> &[u8] {
 #[derive(Clone, Copy)]
 pub(crate) struct Walk<'a> {
     pub text: &'a [u8],
-    /// The lines after this one.
-    rest: &'a [u8],
+    /// This line and those after it.
+    lines: Lines<'a>,
     pub number: u64,
     /// It has no bytes at the text's end.
     pub line: &'a [u8],
     pub form: &'static Form,
     pub place: Place,
     pub process: u64,
-    /// The last thread or procedure.
+    /// The thread or procedure.
     pub body: u64,
-    /// The innermost that is open: the body; where `walk_to` was told the line's depth a block.
+    /// The innermost that is open: the last body; where `walk_to` was told the line's depth a block.
     pub opener: u64,
     /// How many blocks are open in the body.
     pub depth: u64,
@@ -107,7 +109,7 @@ impl<'a> Walk<'a> {
     pub(crate) fn new(text: &'a [u8]) -> Self {
         Walk {
             text,
-            rest: text,
+            lines: Lines::new(text),
             number: 0,
             line: &[],
             form: &NO_FORM,
@@ -121,27 +123,30 @@ impl<'a> Walk<'a> {
 
     /// Where the line stands, in a word.
     pub(crate) fn place_word(&self) -> &'static [u8] {
-        line_at(PLACES.as_bytes(), self.place as u64)
+        line_at(PLACES, self.place as u64)
     }
 
     /// Goes on to the next line, if there is one.
     pub(crate) fn next(&mut self) -> bool
-        ensures shorter { result ≡ true → length self.new.rest.now < length self.old.rest.now }
+        ensures shorter { result ≡ true → length self.new.lines.rest.now < length self.old.lines.rest.now }
     {
-        let next = next_line(self.rest);
         // what is open after the line so far
-        if let Place::Body | Place::Block | Place::AfterBlock = self.place {
+        if self.body != 0 {
             match self.form.role {
-                Role::End if self.depth == 0 => self.place = Place::Members,
-                Role::End => {
-                    self.depth = self.depth.saturating_sub(1);
-                    if self.depth == 0 {
-                        self.place = Place::AfterBlock;
-                    }
-                }
                 Role::Block => {
                     self.place = Place::Block;
                     self.depth = self.depth.saturating_add(1);
+                }
+                Role::End => {
+                    match self.depth {
+                        0 => {
+                            self.place = Place::Members;
+                            self.body = 0;
+                        }
+                        1 => self.place = Place::AfterBlock,
+                        _ => {}
+                    }
+                    self.depth = self.depth.saturating_sub(1);
                 }
                 _ => {}
             }
@@ -161,17 +166,11 @@ impl<'a> Walk<'a> {
                 _ => {}
             }
         }
-        let Some((line, rest)) = next else {
-            // no bytes are left
-            self.line = self.rest;
-            self.form = &NO_FORM;
-            return false;
-        };
-        self.rest = rest;
-        self.number = self.number.saturating_add(1);
-        self.line = line;
-        self.form = form_of(line);
-        true
+        let is_there = self.lines.next();
+        self.number = self.lines.number;
+        self.line = self.lines.line;
+        self.form = form_of(self.line);
+        is_there
     }
 }
 

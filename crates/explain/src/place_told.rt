@@ -4,18 +4,19 @@ use crate::case::Case;
 use crate::form::{Role, forms};
 use crate::near::is_near;
 use crate::outline::Place;
-use crate::rule::{has_one_of, is_listed};
+use crate::rule::{has_one_of, is_same};
 use crate::said::{Topic, said_of};
 use crate::words::word_at;
 
 /// Notes what may have been meant by a word that begins no line, where that is plain.
 fn find_meant(case: &mut Case<'_, '_>) {
-    let (word, place) = (case.found.word, case.at.place);
-    let is_in_body = matches!(place, Place::Body | Place::Block | Place::AfterBlock);
+    let word = case.found.word;
+    let is_in_body = case.at.body != 0;
+    let is_in_process = matches!(case.at.place, Place::Members);
     for form in forms() {
         let has_place = match form.role {
-            Role::Budget => matches!(place, Place::Start | Place::Processes | Place::Schedule),
-            Role::Thread | Role::Spare | Role::Proc => matches!(place, Place::Members),
+            Role::Budget => !is_in_body && !is_in_process,
+            Role::Thread | Role::Spare | Role::Proc => is_in_process,
             Role::Process | Role::Child | Role::Schedule => !is_in_body,
             _ => is_in_body,
         };
@@ -33,28 +34,30 @@ fn find_meant(case: &mut Case<'_, '_>) {
 
 /// Of a line whose first word has no place there.
 pub(crate) fn find_place(case: &mut Case<'_, '_>) {
-    let (at, word) = (case.at, case.found.word);
-    let place = at.place_word();
-    if !matches!(at.form.role, Role::Unknown) {
+    let at = case.at;
+    let word = case.found.word;
+    if word.is_empty() {
+        return;
+    }
+    if let Role::Unknown = at.form.role {
+        case.said = Topic::NoWord;
+        case.slip = Topic::Line;
+        if is_same(at.line, b"trace") {
+            case.slip = Topic::Lone;
+        }
+        if said_of(case, case.slip, word).is_empty() {
+            case.note = Topic::Version;
+            case.note_for = at.place_word();
+            find_meant(case);
+        }
+    } else {
         case.said = Topic::Version;
         if said_of(case, Topic::Version, word).is_empty() {
             case.said = Topic::Place;
-            if !matches!(at.place, Place::Body | Place::Block | Place::AfterBlock) {
+            if at.body == 0 {
                 case.note = Topic::Version;
-                case.note_for = place;
+                case.note_for = at.place_word();
             }
-        }
-    } else if !word.is_empty() {
-        case.said = Topic::NoWord;
-        case.slip = if is_listed(b"trace", at.line) {
-            Topic::Lone
-        } else {
-            Topic::Line
-        };
-        if said_of(case, case.slip, word).is_empty() {
-            case.note = Topic::Version;
-            case.note_for = place;
-            find_meant(case);
         }
     }
 }

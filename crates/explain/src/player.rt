@@ -2,7 +2,6 @@
 
 use crate::run::Run;
 use dk_base::error::NoMemory;
-use script_text::number::is_digit;
 use std::alloc::Global;
 
 /// Who can take a run again, and tell the script and the trace of an input of `check` apart.
@@ -14,12 +13,4 @@ pub trait Player {
     /// line's second word, as long as it can take one and the budget is not used up; and then tells which threads of the run can take a
     /// turn, but for the budget. It ends early only where memory runs out, or the text is no script.
     fn play(alloc: Global, text: &[u8], run: &mut Run<'_>) -> Result<(), NoMemory>;
-}
-
-/// Whether a line of a trace is that of an event.
-pub fn is_event(line: &[u8]) -> bool {
-    match line {
-        [first, ..] => is_digit(*first),
-        [] => false,
-    }
 }

@@ -43,7 +43,7 @@ impl<T: Drop> Recorded<T> {
         }
     }
 
-    /// The first `count` of these bytes went through, too.
+    /// The first `count` of these bytes went through, too; none where a call failed.
     fn keep(&mut self, piece: &[u8], count: usize)
         ensures { self.new.inner ≡ self.old.inner }
     {
@@ -61,9 +61,7 @@ impl<S: Source + Drop> Source for Recorded<S> {
 
     fn read(&mut self, buf: &mut [u8]) -> Result<usize, Failed> {
         let result = self.inner.read(buf);
-        if let Ok(count) = result {
-            self.keep(buf, count);
-        }
+        self.keep(buf, result.unwrap_or(0));
         result
     }
 }
@@ -75,9 +73,7 @@ impl<O: Sink + Drop> Sink for Recorded<O> {
 
     fn write(&mut self, piece: &[u8]) -> Result<usize, Failed> {
         let result = self.inner.write(piece);
-        if let Ok(count) = result {
-            self.keep(piece, count);
-        }
+        self.keep(piece, result.unwrap_or(0));
         result
     }
 }

@@ -1,6 +1,7 @@
 //! The lines that are written to the error stream.
 
 use crate::words::Found;
+use dk_base::error::NoMemory;
 use dk_base::list::Bytes;
 use itoa::Buffer;
 use script_text::string::{hex_digit, is_printable};
@@ -22,22 +23,22 @@ impl Report {
     }
 
     pub fn put(&mut self, bytes: &[u8]) {
-        if self.text.append(bytes).is_err() {
+        if let Err(NoMemory) = self.text.append(bytes) {
             self.is_lost = true;
         }
     }
 
     /// Bytes of a text; those that are not printable are shown as `\xHH`, and of many the first alone.
     pub fn word(&mut self, bytes: &[u8]) {
-        let (shown, more) = bytes.split_at(bytes.len().min(SHOWN_MAX));
-        for byte in shown {
-            if is_printable(*byte) {
-                self.put(&[*byte]);
+        for byte in bytes.split_at(bytes.len().min(SHOWN_MAX)).0 {
+            let byte = *byte;
+            if is_printable(byte) {
+                self.put(&[byte]);
             } else {
                 self.put(&[b'\\', b'x', hex_digit(byte / 16), hex_digit(byte % 16)]);
             }
         }
-        if !more.is_empty() {
+        if bytes.len() > SHOWN_MAX {
             self.put(b" ..");
         }
     }
@@ -48,25 +49,28 @@ impl Report {
 
     /// A line as it stands, and marks below a word of it. Of a long line the first bytes, without marks.
     pub fn show(&mut self, line: &[u8], found: Found<'_>) {
-        self.put(b"    ");
+        let indent: &[u8] = b"    ";
+        let line_end: &[u8] = b"\n";
+        self.put(indent);
         self.word(line);
+        self.put(line_end);
         if line.len() <= SHOWN_MAX {
             let end = line.len().saturating_sub(found.rest.len());
             let start = end.saturating_sub(found.word.len());
-            self.put(b"\n    ");
+            self.put(indent);
             // only in the word itself a byte can stand that is not printable
             self.put([b' '; SHOWN_MAX].split_at(start).0);
             for byte in found.word {
-                if is_printable(*byte) {
-                    self.put(b"^");
-                } else {
-                    self.put(b"^^^^");
+                let mut mark: &[u8] = b"^";
+                if !is_printable(*byte) {
+                    mark = b"^^^^";
                 }
+                self.put(mark);
             }
             if start == line.len() {
                 self.put(b" ^");
             }
+            self.put(line_end);
         }
-        self.put(b"\n");
     }
 }

@@ -5,8 +5,8 @@ use crate::form::{Role, form_of};
 use crate::names::Names;
 use crate::operand::Operand;
 use crate::outline::Lines;
-use crate::player::is_event;
 use crate::report::Report;
+use crate::rule::begins_with_digit;
 use crate::trace_told::Trace;
 use crate::words::word_at;
 use dk_base::answer::Answer;
@@ -128,7 +128,7 @@ impl<'a> Run<'a> {
     pub fn next_line(&mut self) -> &'a [u8] {
         if self.lines.next() {
             self.has_last = self.lines.number >= self.last;
-            if !self.has_last && is_event(self.lines.line) {
+            if !self.has_last && begins_with_digit(self.lines.line) {
                 return self.lines.line;
             }
         }
@@ -143,7 +143,7 @@ impl<'a> Run<'a> {
         }
         let mut what = event.what;
         let mut number = subject.number;
-        let mut error = "";
+        let mut error: &[u8] = &[];
         match event.answer {
             Answer::WaitCall { call } => number = call,
             Answer::Entered { call, .. } => {
@@ -151,7 +151,7 @@ impl<'a> Run<'a> {
                 number = call;
             }
             Answer::Child { process } => number = process.0,
-            Answer::Failure(errno) => error = errno.name(),
+            Answer::Failure(errno) => error = errno.name().as_bytes(),
             _ => {}
         }
         let act = Act {

@@ -7,11 +7,11 @@ use crate::report::Report;
 use crate::rule::is_same;
 use crate::run::Run;
 use crate::standing::standing_of;
-use crate::words::{Found, found_at};
+use crate::words::found_at;
 
 /// Tells the threads that wait for calls, or else those that wait for anything else. Whether one waits in a call that no thread has
 /// accepted. A thread that waits for calls is not in the pool of such a call, since no thread can go on.
-fn tell_waiting(report: &mut Report, run: &Run<'_>, for_calls: bool) -> bool {
+pub(crate) fn tell_waiting(report: &mut Report, run: &Run<'_>, for_calls: bool) -> bool {
     let mut head = Said::Nothing;
     let mut indent: &[u8] = b"    ";
     if for_calls {
@@ -21,34 +21,25 @@ fn tell_waiting(report: &mut Report, run: &Run<'_>, for_calls: bool) -> bool {
     let mut is_queued = false;
     for thread in run.threads.as_slice() {
         let standing = standing_of(run, thread);
-        let is_told = match standing.said {
-            Said::NotStarted | Said::NotForked | Said::Exited => false,
-            Said::KilledItself | Said::Killed => false,
-            Said::ForCalls | Said::OfPrivateDoor | Said::OfProcess => for_calls,
-            _ => !for_calls,
-        };
+        let mut is_told = !for_calls;
+        match standing.said {
+            Said::NotStarted | Said::NotForked | Said::Exited => is_told = false,
+            Said::KilledItself | Said::Killed => is_told = false,
+            Said::ForCalls | Said::OfPrivateDoor | Said::OfProcess => is_told = for_calls,
+            Said::NotAccepted => is_queued = true,
+            _ => {}
+        }
         if is_told {
             tell(report, head, 0);
+            head = Said::Nothing;
             report.put(indent);
             standing.tell(report);
-            head = Said::Nothing;
-            if let Said::NotAccepted = standing.said {
-                is_queued = true;
-            }
         }
     }
     if let Said::OtherCalls = head {
         tell(report, Said::NoIdle, 0);
     }
     is_queued
-}
-
-/// What each thread of a stalled run waits for; and where a call waits that no thread has accepted, which threads wait for others.
-pub(crate) fn tell_stalled(report: &mut Report, run: &Run<'_>) {
-    tell(report, Said::Stalled, 0);
-    if tell_waiting(report, run, false) {
-        tell_waiting(report, run, true);
-    }
 }
 
 /// The threads that can take a turn, after this message.
@@ -67,12 +58,7 @@ pub(crate) fn tell_able(report: &mut Report, run: &Run<'_>, head: Said) {
 
 /// Why a thread of this name cannot take a turn.
 pub(crate) fn tell_named(report: &mut Report, run: &Run<'_>, name: &[u8]) {
-    for thread in run.threads.as_slice() {
-        if is_same(thread.name, name) {
-            return standing_of(run, thread).tell(report);
-        }
-    }
-    let nobody = Message {
+    let mut told = Message {
         said: Said::NoThread,
         name,
         word: name,
@@ -81,21 +67,12 @@ pub(crate) fn tell_named(report: &mut Report, run: &Run<'_>, name: &[u8]) {
         number: 0,
         other: 0,
     };
-    nobody.tell(report);
-}
-
-/// The last of so many turns of a line. `left` is how many of them are still to come, 0 where the line has them all.
-fn turn_in<'a>(line: &'a [u8], left: &mut u64) -> Found<'a> {
-    // the line's first word is no turn
-    let mut found = found_at(line, 0);
-    while *left > 0 {
-        found = found_at(found.rest, 0);
-        if found.word.is_empty() {
-            break;
+    for thread in run.threads.as_slice() {
+        if is_same(thread.name, name) {
+            told = standing_of(run, thread);
         }
-        *left -= 1;
     }
-    found
+    told.tell(report);
 }
 
 /// A turn of the schedule that its thread cannot take: the first that the run does not have.
@@ -103,17 +80,21 @@ pub(crate) fn tell_refused(report: &mut Report, run: &Run<'_>) {
     let turn = run.events.saturating_add(1);
     let mut left = turn;
     let mut lines = Lines::new(run.text);
-    while lines.next() {
-        if let Role::Schedule = form_of(lines.line).role {
-            let found = turn_in(lines.line, &mut left);
-            if left == 0 {
-                tell(report, Said::RefusedLine, lines.number);
-                tell(report, Said::RefusedTurn, turn);
-                tell_named(report, run, found.word);
-                report.show(lines.line, found);
-                tell_able(report, run, Said::AbleThreads);
-                break;
-            }
+    let mut found = found_at(lines.line, 0);
+    while left > 0 {
+        found = found_at(found.rest, 0);
+        if !found.word.is_empty() {
+            left -= 1;
+        } else if !lines.next() {
+            return;
+        } else if let Role::Schedule = form_of(lines.line).role {
+            // the line's first word is no turn
+            found = found_at(lines.line, 0);
         }
     }
+    tell(report, Said::RefusedLine, lines.number);
+    tell(report, Said::RefusedTurn, turn);
+    tell_named(report, run, found.word);
+    report.show(lines.line, found);
+    tell_able(report, run, Said::AbleThreads);
 }

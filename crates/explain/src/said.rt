@@ -2,9 +2,9 @@
 
 use crate::case::Case;
 use crate::operand::{columns, told_of};
-use crate::outline::line_at;
+use crate::outline::{Lines, line_at};
 use crate::rule::{is_listed, is_passed};
-use script_text::lines::next_line;
+use crate::words::word_at;
 
 /// What is told of. `TOPICS` has the line of its number.
 #[derive(Clone, Copy)]
@@ -49,7 +49,7 @@ pub(crate) enum Topic {
     Version,
 }
 
-static TOPICS: &str = "\
+static TOPICS: &[u8] = b"\
 byte
 order-mark
 quote
@@ -88,7 +88,7 @@ string
 /// these words, `^` and `$` that it begins and ends so, `[` that it begins with one of these bytes, `*` that it has one of them, `0`
 /// that it has zeros before a digit, `+` that it is too long for a name, `@` that it is a name; or none. Then a template, in which `%`
 /// and a letter stand for a fact: `case.rt` has them; `%e` ends a line.
-static SAID: &str = "\
+static SAID: &[u8] = b"\
 byte|[\t|doors: line %n: a tab ('%w') in column %o%e%s    indent and separate words with spaces%e
 byte|=\r|doors: line %n: a carriage return ('%w') in column %o%e%s    lines end with a line feed alone: tr -d '\\r' takes carriage returns out%e
 byte|[\r|doors: line %n: a carriage return ('%w') in column %o%e%s    tr '\\r' '\\n' makes line feeds of carriage returns%e
@@ -211,27 +211,23 @@ condition|=not error|: an 'if' asks for ok, yes, unref or one error, and there i
 condition|[e|: names of errors have capitals
 ";
 
-fn rows() -> &'static [u8] {
-    SAID.as_bytes()
-}
-
 /// What is said by a row, without words where nothing is.
 pub(crate) fn said_of(case: &Case<'_, '_>, topic: Topic, word: &[u8]) -> &'static [u8] {
     let topic = match topic {
         Topic::Class => told_of(case.operand).class,
         Topic::Place => case.at.place_word(),
-        Topic::Version => case.at.text.get(13..14).unwrap_or(&[]),
-        topic => line_at(TOPICS.as_bytes(), topic as u64),
+        Topic::Version => word_at(line_at(case.at.text, 1), 2),
+        topic => line_at(TOPICS, topic as u64),
     };
-    let mut rest = rows();
-    while let Some((row, later)) = next_line(rest) {
-        let (of, row) = columns(row);
-        let (test, said) = columns(row);
-        if is_listed(of, topic) && is_passed(test, word) {
-            return said;
+    let mut lines = Lines::new(SAID);
+    while lines.next() {
+        let (of, row) = columns(lines.line);
+        if is_listed(of, topic) {
+            let (test, said) = columns(row);
+            if is_passed(test, word) {
+                return said;
+            }
         }
-        rest = later;
     }
-    // no bytes are left
-    rest
+    &[]
 }

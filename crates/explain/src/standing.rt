@@ -28,34 +28,39 @@ fn set_attached<'a>(told: &mut Message<'a>, text: &'a [u8]) {
     }
 }
 
-/// Why nothing is found at the path of this number.
+/// Why nothing is found at the path of this number: by its first detach, or else by its first attach.
 fn set_path<'a>(told: &mut Message<'a>, run: &Run<'a>) {
-    let Some(path) = run.paths.list.get(told.number as usize) else {
+    let path = told.number as usize;
+    if path >= run.paths.list.len() {
         return;
-    };
-    told.word = *path;
+    }
+    told.word = run.paths.list.as_slice()[path];
     told.said = Said::NotAttached;
     for act in run.acts.as_slice() {
-        if act.number != told.number {
-            continue;
-        }
-        let is_done = act.error.is_empty();
-        match act.what {
-            What::Detach if is_done => {
-                told.said = Said::Detached;
-                told.other = act.event;
-                return;
+        if act.number == told.number {
+            let is_done = act.error.is_empty();
+            let mut said = told.said;
+            match act.what {
+                What::Detach => {
+                    if is_done {
+                        said = Said::Detached;
+                    }
+                }
+                What::Attach => {
+                    if let Said::NotAttached = said {
+                        said = Said::AttachFailed;
+                        if is_done {
+                            said = Said::ForPath;
+                        }
+                    }
+                }
+                _ => {}
             }
-            What::Attach if matches!(told.said, Said::NotAttached) => {
-                told.said = if is_done {
-                    Said::ForPath
-                } else {
-                    Said::AttachFailed
-                };
-                told.by = act.error.as_bytes();
+            if said as u64 != told.said as u64 {
+                told.said = said;
+                told.by = act.error;
                 told.other = act.event;
             }
-            _ => {}
         }
     }
     if let Said::NotAttached = told.said {
@@ -65,22 +70,45 @@ fn set_path<'a>(told: &mut Message<'a>, run: &Run<'a>) {
 
 /// How a thread stands after an act of its own. `pool` tells for which calls it waits where it waits for some.
 fn said_after(act: &Act, process: u64, pool: &mut Said) -> Said {
-    match (act.what, act.error.is_empty()) {
-        (What::Bind, true) => *pool = Said::OfPrivateDoor,
-        (What::Unbind, true) | (What::Woken, false) => *pool = Said::OfProcess,
-        (What::Return | What::Accept, is_done) => {
+    let is_done = act.error.is_empty();
+    match act.what {
+        What::Bind => {
+            if is_done {
+                *pool = Said::OfPrivateDoor;
+            }
+        }
+        What::Unbind => {
+            if is_done {
+                *pool = Said::OfProcess;
+            }
+        }
+        What::Woken => {
+            if !is_done {
+                *pool = Said::OfProcess;
+            }
+        }
+        What::Return | What::Accept => {
             // its descriptors were wrong, or its door was valid no more
             if !is_done && matches!(*pool, Said::OfPrivateDoor) {
                 *pool = Said::ForCalls;
             }
             return *pool;
         }
-        (What::Call, _) => return Said::NotAccepted,
-        (What::Await, _) => return Said::ForSomePath,
-        (What::Get | What::GetN, _) if act.wanted > 1 => return Said::AtPortForMany,
-        (What::Get | What::GetN, _) => return Said::AtPort,
-        (What::Exit, _) => return Said::Exited,
-        (What::Kill, _) if act.number == process => return Said::KilledItself,
+        What::Call => return Said::NotAccepted,
+        What::Await => return Said::ForSomePath,
+        What::Get | What::GetN => {
+            return if act.wanted > 1 {
+                Said::AtPortForMany
+            } else {
+                Said::AtPort
+            };
+        }
+        What::Exit => return Said::Exited,
+        What::Kill => {
+            if act.number == process {
+                return Said::KilledItself;
+            }
+        }
         _ => {}
     }
     Said::Waits

@@ -2,5 +2,5 @@ use Rattle.std.proofs.Common.{length}
 use Rattle.script_text.specs.Words.{words_of}
 use Rattle.explain.proofs.names_told.find_unknown.Given as goal
 
-abbrev pub decreases-loop-word : goal.decreases-loop-word
-decreases-loop-word l = length (words_of l.rest)
+abbrev pub decreases-loop-at : goal.decreases-loop-at
+decreases-loop-at l = length (words_of l.found.rest.now)

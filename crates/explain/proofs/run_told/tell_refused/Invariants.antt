@@ -1,5 +1,5 @@
-use Rattle.std.proofs.Common.{length}
+use Rattle.std.proofs.Common.{◌+◌, length}
 use Rattle.explain.proofs.run_told.tell_refused.Given as goal
 
-abbrev pub decreases-loop-lines : goal.decreases-loop-lines
-decreases-loop-lines l = length l.lines.rest.now
+abbrev pub decreases-loop-left : goal.decreases-loop-left
+decreases-loop-left l = l.left + length l.lines.rest.now

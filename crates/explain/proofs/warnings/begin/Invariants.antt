@@ -2,4 +2,4 @@ use Rattle.std.proofs.Common.{length}
 use Rattle.explain.proofs.warnings.begin.Given as goal
 
 abbrev pub decreases-loop-walk : goal.decreases-loop-walk
-decreases-loop-walk l = length l.walk.rest.now
+decreases-loop-walk l = length l.walk.lines.rest.now

@@ -1,0 +1,5 @@
+use Rattle.std.proofs.Common.{length, ◌-◌}
+use Rattle.explain.proofs.near.front.Given as goal
+
+abbrev pub decreases-loop-count : goal.decreases-loop-count
+decreases-loop-count l = l.shorter - l.count
