@@ -33,10 +33,13 @@ fn words_given<R: Env + AllocGlobal>(rt: &R) -> Result<Vec<String>, NoMemory> {
 }
 
 fn texts_of(alloc: Global, words: &[String]) -> Result<Vec<&str>, NoMemory> {
-    match words.iter().map(|word| word.as_str()).collect(alloc) {
-        Ok(texts) => Ok(texts),
-        Err(_) => Err(NoMemory),
+    let mut texts = Vec::new(alloc);
+    for word in words {
+        if texts.push(word.as_str()).is_err() {
+            return Err(NoMemory);
+        }
     }
+    Ok(texts)
 }
 
 /// How a command ended, and what is to be said of its answer.
@@ -63,14 +66,20 @@ where
 }
 
 /// The same of the words that were given.
-fn program<R>(rt: &R) -> Result<Ended, NoMemory>
+fn program<R>(rt: &R) -> Ended
 where
     R: Env + Input + Print + AllocGlobal + Threads + Wait + Sync,
 {
     let alloc = rt.alloc();
-    let words = words_given(rt)?;
-    let texts = texts_of(alloc, words.as_slice())?;
-    Ok(answered(rt, alloc, texts.as_slice()))
+    if let Ok(words) = words_given(rt) {
+        if let Ok(texts) = texts_of(alloc, words.as_slice()) {
+            return answered(rt, alloc, texts.as_slice());
+        }
+    }
+    Ended {
+        status: Status::Memory,
+        told: None,
+    }
 }
 
 /// What is said on the error stream: one line for a status that has one, or what is to be said of the answer. Where it cannot be
@@ -87,10 +96,7 @@ fn report<R: Eprint>(rt: &R, ended: &Ended) {
 }
 
 fn main(rt: HostRuntime) -> ExitCode {
-    let ended = program(&rt).unwrap_or(Ended {
-        status: Status::Memory,
-        told: None,
-    });
+    let ended = program(&rt);
     report(&rt, &ended);
     ExitCode::from(ended.status.code())
 }
