@@ -418,6 +418,8 @@ hunts_refused() {
     hunts_misspelled
     hunted x "$work/none"
     refused "hunt of a script that is not there" 2 "none: it cannot be read"
+    hunted "$loops" x
+    refused "hunt of a script before the pattern" 2 "x: it cannot be read; PATTERN comes before SCRIPT"
     echo "doors script 1" >"$work/bad.doors"
     echo "proces p" >>"$work/bad.doors"
     DOORS=$REAL
