@@ -1,4 +1,4 @@
-use Rattle.std.proofs.Common.{length, ◌-◌}
+use Rattle.std.proofs.Common.{◌-◌}
 use Rattle.explain.proofs.near.front.Given as goal
 
 abbrev pub decreases-loop-count : goal.decreases-loop-count
