@@ -17,6 +17,13 @@ use dk_base::number::Pid;
 use kernel_records::timer::Due;
 
 impl Store {
+    /// The clock of the timers.
+    pub fn clock(&self) -> u64
+        ensures { result ≡ (stored_state self.now).channels.timers.clock }
+    {
+        self.ports.timers().clock()
+    }
+
     /// How many timers there are.
     pub fn timer_count(&self) -> usize
         ensures len { result ≡ length (timers_in (stored_state self.now)) }
