@@ -15,8 +15,20 @@ impl Answers for Kernel {
         self.events()
     }
 
+    fn clock(&self) -> u64 {
+        self.clock()
+    }
+
+    fn threads(&self) -> u32 {
+        self.threads()
+    }
+
     fn runnable(&self, thread: Tid) -> bool {
         self.runnable(thread)
+    }
+
+    fn least_runnable(&self) -> Option<Tid> {
+        self.least_runnable()
     }
 
     fn is_running(&self, thread: Tid) -> bool {
@@ -25,6 +37,14 @@ impl Answers for Kernel {
 
     fn state(&self, thread: Tid) -> &ThreadState {
         self.state(thread)
+    }
+
+    fn root(&self, thread: Tid) -> Tid {
+        self.root(thread)
+    }
+
+    fn fits(&self, thread: Tid, request: &Request) -> bool {
+        self.fits(thread, request)
     }
 
     fn turn(&mut self, thread: Tid, request: Option<Request>) -> Result<Stepped, NoMemory> {

@@ -14,6 +14,7 @@ ghost use Rattle.kernel_core.specs.Within.{IsWithin};
 ghost use Rattle.kernel_core.specs.Acted.{IsBetweenEvents};
 
 use crate::event::Parts;
+use crate::fitness::is_fit;
 use crate::turns::{self, is_running_state};
 use dk_base::error::{NoMemory, ProcFault};
 use dk_base::event::Stepped;
@@ -149,6 +150,13 @@ impl Kernel {
         is_running_state(self.parts.store.processes().state(t))
     }
 
+    /// Whether the threads and processes that a request of a thread names are there, and its counts are in range.
+    pub fn fits(&self, t: Tid, request: &Request) -> bool
+        ensures { (result ≡ true) ↔ IsFit self.now t.0 request.now }
+    {
+        is_fit(&self.parts.store, t, request)
+    }
+
     /// The end of the walk from a thread to the caller of the call that it serves, and so on.
     pub fn root(&self, t: Tid) -> Tid
         ensures kept { result.0 ≡ root self.now t.0 }
@@ -171,6 +179,14 @@ impl Kernel {
         ensures stands { (m : State) → StandsFor self.now m → result ≡ length m.process_table.threads }
     {
         self.parts.store.processes().thread_count()
+    }
+
+    /// The clock of the timers.
+    pub fn clock(&self) -> u64
+        ensures kept { result ≡ self.now.channels.timers.clock }
+        ensures stands { (m : State) → StandsFor self.now m → result ≡ m.channels.timers.clock }
+    {
+        self.parts.store.clock()
     }
 
     /// How many events there were.

@@ -9,6 +9,7 @@ mod binding;
 mod descriptors;
 mod doors;
 mod event;
+mod fitness;
 mod information;
 pub mod kernel;
 mod leaving;

@@ -9,4 +9,3 @@ pub mod playing;
 pub mod sys;
 mod threads;
 mod turn;
-mod what;

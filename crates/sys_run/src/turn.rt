@@ -10,7 +10,7 @@ ghost use Rattle.sys_run.specs.TurnRequests.{HasReplied, MayReply, MayTake, Repl
 ghost use Rattle.sys_run.specs.Turns.{CanTurn, HasTurned};
 
 use crate::name_tables::NameTables;
-use crate::what;
+use answering_kernel::what;
 use dk_base::answer::Answer;
 use dk_base::error::NoMemory;
 use dk_base::event::{Event, Stepped, What};

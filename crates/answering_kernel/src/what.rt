@@ -6,7 +6,7 @@ use dk_base::event::What;
 use dk_base::request::Request;
 use kernel_records::record::ThreadState;
 
-pub(crate) fn of_entry(request: &Request) -> What
+pub fn of_entry(request: &Request) -> What
     ensures { result ≡ what_of_entry request.now }
 {
     match request {
@@ -51,7 +51,7 @@ pub(crate) fn of_entry(request: &Request) -> What
     }
 }
 
-pub(crate) fn of_wait(state: &ThreadState) -> What
+pub fn of_wait(state: &ThreadState) -> What
     ensures { result ≡ what_of_wait state.now }
 {
     match state {
