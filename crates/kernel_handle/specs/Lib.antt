@@ -1,0 +1,3 @@
+pub mod Told
+pub mod Openings
+pub mod Shapes
