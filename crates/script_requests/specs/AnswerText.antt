@@ -6,9 +6,7 @@ use Rattle.script_requests.specs.Types.{Answer, Attrs, DoorInfo, Errno, EventRec
 use Rattle.dk_base.specs.declared.object.Src.TheVariants.{Fd as FromFd, User, Alert, Timer}
 use Rattle.dk_base.specs.declared.answer.Answer.TheVariants.{Wait, WaitCall, Done, NewFd, TwoFds, Count, Available, Param, Info, Client, Child, Cancel, Data, Entered, EnteredNotice, EnterFailed, Results, OneEvent, Events, Errors, Failure}
 use Rattle.script_line.specs.Words.{attribute_words, poll_word, value_word}
-use Rattle.script_lang.specs.Words.{ScriptValue}
 use Rattle.script_requests.specs.DataText.{data_text}
-use Rattle.script_requests.specs.TraceNames.{procedure_name}
 
 abbrev pub spaced_fd : Fd → List ℕ
 spaced_fd fd = codes " " ++ decimal fd.0
@@ -38,17 +36,17 @@ abbrev pub target_text : Option Pid → List ℕ
 target_text None = codes "-1"
 target_text (Some process) = decimal process.0
 
--- whose door it is, and what it was made with
-abbrev pub made_text : ScriptValue → DoorInfo → List ℕ
-made_text script info =
+-- whose door it is, and what it was made with; `procedure` is the name of the procedure
+abbrev pub made_text : List ℕ → DoorInfo → List ℕ
+made_text procedure info =
     codes "ok target " ++ target_text info.target
-    ++ codes " proc " ++ procedure_name script info.entry
+    ++ codes " proc " ++ procedure
     ++ codes " cookie " ++ decimal info.cookie
 
 -- what door_info(3C) tells
-abbrev pub info_text : ScriptValue → DoorInfo → List ℕ
-info_text script info =
-    made_text script info
+abbrev pub info_text : List ℕ → DoorInfo → List ℕ
+info_text procedure info =
+    made_text procedure info
     ++ codes " attr " ++ attributes_text info.attrs
     ++ codes " unique " ++ decimal info.unique
 
@@ -71,42 +69,42 @@ abbrev pub spaced_error : Option Errno → List ℕ
 spaced_error None = codes " ok"
 spaced_error (Some errno) = codes " " ++ errno_name errno
 
--- how an invocation begins: what it serves, its procedure, and the door's cookie
-abbrev pub invocation_text : ScriptValue → List ℕ → ℕ → ℕ → ℕ → List ℕ
-invocation_text script item number entry cookie =
+-- how an invocation begins: what it serves, the name of its procedure, and the door's cookie
+abbrev pub invocation_text : List ℕ → List ℕ → ℕ → ℕ → List ℕ
+invocation_text procedure item number cookie =
     codes "enter " ++ item ++ decimal number
-    ++ codes " " ++ procedure_name script entry
+    ++ codes " " ++ procedure
     ++ codes " " ++ decimal cookie
 
-abbrev pub entered_text : ScriptValue → ℕ → ℕ → ℕ → List ℕ → List Fd → List ℕ
-entered_text script call entry cookie bytes fds =
-    invocation_text script (codes "c") call entry cookie ++ codes " " ++ data_text bytes ++ fds_text fds
+abbrev pub entered_text : List ℕ → ℕ → ℕ → List ℕ → List Fd → List ℕ
+entered_text procedure call cookie bytes fds = invocation_text procedure (codes "c") call cookie ++ codes " " ++ data_text bytes ++ fds_text fds
 
-abbrev pub notice_text : ScriptValue → ℕ → ℕ → ℕ → List ℕ
-notice_text script notice entry cookie = invocation_text script (codes "n") notice entry cookie ++ codes " unref"
+abbrev pub notice_text : List ℕ → ℕ → ℕ → List ℕ
+notice_text procedure notice cookie = invocation_text procedure (codes "n") notice cookie ++ codes " unref"
 
 abbrev pub results_text : List ℕ → List Fd → Bool → List ℕ
 results_text bytes fds grown = codes "ok " ++ data_text bytes ++ fds_text fds ++ grown_text grown
 
-abbrev pub answer_text : ScriptValue → Answer → List ℕ
-answer_text script Wait = codes "wait"
-answer_text script (WaitCall call) = codes "wait c" ++ decimal call
-answer_text script Done = codes "ok"
-answer_text script (NewFd fd) = codes "ok fd " ++ decimal fd.0
-answer_text script (TwoFds read write) = codes "ok fd " ++ decimal read.0 ++ codes " " ++ decimal write.0
-answer_text script (Count n) = codes "ok " ++ decimal n
-answer_text script (Available n) = codes "ok " ++ decimal n
-answer_text script (Param value) = codes "ok " ++ value_word value
-answer_text script (Info info) = info_text script info
-answer_text script (Client process) = codes "ok process " ++ decimal process.0
-answer_text script (Child process) = codes "ok process " ++ decimal process.0
-answer_text script (Cancel cancelled) = codes "ok " ++ yes_text cancelled
-answer_text script (Data bytes) = codes "ok " ++ data_text bytes
-answer_text script (Entered call entry cookie bytes fds) = entered_text script call entry cookie bytes fds
-answer_text script (EnteredNotice notice entry cookie) = notice_text script notice entry cookie
-answer_text script (EnterFailed call) = codes "EMFILE c" ++ decimal call
-answer_text script (Results bytes fds grown) = results_text bytes fds grown
-answer_text script (OneEvent event) = codes "ok " ++ event_text event
-answer_text script (Events events) = codes "ok " ++ decimal (length events) ++ flat_map spaced_event events
-answer_text script (Errors errors) = codes "ok" ++ flat_map spaced_error errors
-answer_text script (Failure errno) = errno_name errno
+-- `names` is what procedures are called
+abbrev pub answer_text : (ℕ → List ℕ) → Answer → List ℕ
+answer_text names Wait = codes "wait"
+answer_text names (WaitCall call) = codes "wait c" ++ decimal call
+answer_text names Done = codes "ok"
+answer_text names (NewFd fd) = codes "ok fd " ++ decimal fd.0
+answer_text names (TwoFds read write) = codes "ok fd " ++ decimal read.0 ++ codes " " ++ decimal write.0
+answer_text names (Count n) = codes "ok " ++ decimal n
+answer_text names (Available n) = codes "ok " ++ decimal n
+answer_text names (Param value) = codes "ok " ++ value_word value
+answer_text names (Info info) = info_text (names info.entry) info
+answer_text names (Client process) = codes "ok process " ++ decimal process.0
+answer_text names (Child process) = codes "ok process " ++ decimal process.0
+answer_text names (Cancel cancelled) = codes "ok " ++ yes_text cancelled
+answer_text names (Data bytes) = codes "ok " ++ data_text bytes
+answer_text names (Entered call entry cookie bytes fds) = entered_text (names entry) call cookie bytes fds
+answer_text names (EnteredNotice notice entry cookie) = notice_text (names entry) notice cookie
+answer_text names (EnterFailed call) = codes "EMFILE c" ++ decimal call
+answer_text names (Results bytes fds grown) = results_text bytes fds grown
+answer_text names (OneEvent event) = codes "ok " ++ event_text event
+answer_text names (Events events) = codes "ok " ++ decimal (length events) ++ flat_map spaced_event events
+answer_text names (Errors errors) = codes "ok" ++ flat_map spaced_error errors
+answer_text names (Failure errno) = errno_name errno

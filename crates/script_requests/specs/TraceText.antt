@@ -6,7 +6,7 @@ use Rattle.script_lang.specs.Words.{ScriptValue}
 use Rattle.script_requests.specs.declared.ending.Ending.{Ending}
 use Rattle.script_requests.specs.declared.ending.Ending.TheVariants.{Complete, Stalled, Budget}
 use Rattle.script_requests.specs.AnswerText.{answer_text}
-use Rattle.script_requests.specs.TraceNames.{thread_name}
+use Rattle.script_requests.specs.TraceNames.{procedure_name, thread_name}
 use Rattle.script_requests.specs.WhatWord.{what_word}
 
 -- `NUMBER THREAD ROOT WHAT ANSWER`
@@ -17,7 +17,7 @@ line_of script event =
     ∷ thread_name script event.thread
     ∷ thread_name script event.root
     ∷ what_word event.what
-    ∷ answer_text script event.answer
+    ∷ answer_text (procedure_name script) event.answer
     ∷ [])
 
 -- a line and its LF

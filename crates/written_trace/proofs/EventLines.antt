@@ -11,7 +11,7 @@ use Rattle.script_requests.specs.Types.{Event, Tid}
 use Rattle.script_requests.specs.declared.ending.Ending.{Ending}
 use Rattle.script_requests.specs.AnswerText.{answer_text}
 use Rattle.script_requests.specs.DeclaredNames.{IsDeclaredEvent, IsThread}
-use Rattle.script_requests.specs.TraceNames.{is_some_word, second_word, thread_in_line, thread_name, thread_named}
+use Rattle.script_requests.specs.TraceNames.{is_some_word, procedure_name, second_word, thread_in_line, thread_name, thread_named}
 use Rattle.script_requests.specs.TraceText.{end_line_of, line_of}
 use Rattle.script_requests.specs.WhatWord.{what_word}
 use Rattle.written_trace.specs.Turns.{HasReadableLine, begins_with_digit}
@@ -107,7 +107,7 @@ named_second n name rest is =
 
 -- what stands after the thread's name
 abbrev after_thread : ScriptValue → Event → List ℕ
-after_thread script e = join_with_byte 32 (thread_name script e.root ∷ what_word e.what ∷ answer_text script e.answer ∷ [])
+after_thread script e = join_with_byte 32 (thread_name script e.root ∷ what_word e.what ∷ answer_text (procedure_name script) e.answer ∷ [])
 
 event_words : (script : ScriptValue) (e : Event) →
     line_of script e ≡ decimal e.number ++ 32 ∷ (thread_name script e.thread ++ 32 ∷ after_thread script e)

@@ -280,23 +280,21 @@ target_no_feed : (target : Option Pid) → no_feed (target_text target) ≡ true
 target_no_feed None = refl
 target_no_feed (Some process) = decimal_no_feed process.0
 
--- what is shown of an entry has no line feed
-abbrev pub AreShown : ScriptValue → Type 0
-AreShown script = (entry : ℕ) → no_feed (procedure_name script entry) ≡ true
+-- no procedure's name has a line feed
+abbrev pub AreShown : (ℕ → List ℕ) → Type 0
+AreShown names = (entry : ℕ) → no_feed (names entry) ≡ true
 
-made_no_feed : (script : ScriptValue) → AreShown script → (info : DoorInfo) → no_feed (made_text script info) ≡ true
-made_no_feed script shown info =
-    between (codes "ok target " ++ target_text info.target ++ codes " proc " ++ procedure_name script info.entry) (codes " cookie ")
-    (decimal info.cookie)
-    (between (codes "ok target " ++ target_text info.target) (codes " proc ") (procedure_name script info.entry) (target_no_feed info.target) refl
-    (shown info.entry))
+made_no_feed : (procedure : List ℕ) → no_feed procedure ≡ true → (info : DoorInfo) → no_feed (made_text procedure info) ≡ true
+made_no_feed procedure shown info =
+    between (codes "ok target " ++ target_text info.target ++ codes " proc " ++ procedure) (codes " cookie ") (decimal info.cookie)
+    (between (codes "ok target " ++ target_text info.target) (codes " proc ") procedure (target_no_feed info.target) refl shown)
     refl
     (decimal_no_feed info.cookie)
 
-info_no_feed : (script : ScriptValue) → AreShown script → (info : DoorInfo) → no_feed (info_text script info) ≡ true
-info_no_feed script shown info =
-    between (made_text script info ++ codes " attr " ++ attributes_text info.attrs) (codes " unique ") (decimal info.unique)
-    (between (made_text script info) (codes " attr ") (attributes_text info.attrs) (made_no_feed script shown info) refl
+info_no_feed : (procedure : List ℕ) → no_feed procedure ≡ true → (info : DoorInfo) → no_feed (info_text procedure info) ≡ true
+info_no_feed procedure shown info =
+    between (made_text procedure info ++ codes " attr " ++ attributes_text info.attrs) (codes " unique ") (decimal info.unique)
+    (between (made_text procedure info) (codes " attr ") (attributes_text info.attrs) (made_no_feed procedure shown info) refl
     (attributes_no_feed info.attrs))
     refl
     (decimal_no_feed info.unique)
@@ -319,23 +317,23 @@ error_no_feed : (error : Option Errno) → no_feed (spaced_error error) ≡ true
 error_no_feed None = refl
 error_no_feed (Some errno) = errno_no_feed errno
 
-invocation_no_feed : (script : ScriptValue) → AreShown script → (item : List ℕ) (number entry cookie : ℕ) → no_feed item ≡ true →
-    no_feed (invocation_text script item number entry cookie) ≡ true
-invocation_no_feed script shown item number entry cookie h =
-    between (codes "enter " ++ item ++ decimal number ++ codes " " ++ procedure_name script entry) (codes " ") (decimal cookie)
-    (between (codes "enter " ++ item ++ decimal number) (codes " ") (procedure_name script entry)
+invocation_no_feed : (procedure : List ℕ) → no_feed procedure ≡ true → (item : List ℕ) (number cookie : ℕ) → no_feed item ≡ true →
+    no_feed (invocation_text procedure item number cookie) ≡ true
+invocation_no_feed procedure shown item number cookie h =
+    between (codes "enter " ++ item ++ decimal number ++ codes " " ++ procedure) (codes " ") (decimal cookie)
+    (between (codes "enter " ++ item ++ decimal number) (codes " ") procedure
     (between (codes "enter ") item (decimal number) refl h (decimal_no_feed number))
     refl
-    (shown entry))
+    shown)
     refl
     (decimal_no_feed cookie)
 
-entered_no_feed : (script : ScriptValue) → AreShown script → (call entry cookie : ℕ) (bytes : List ℕ) (fds : List Fd) →
-    no_feed (entered_text script call entry cookie bytes fds) ≡ true
-entered_no_feed script shown call entry cookie bytes fds =
-    no_feed_append (invocation_text script (codes "c") call entry cookie ++ codes " " ++ data_text bytes) (fds_text fds)
-    (between (invocation_text script (codes "c") call entry cookie) (codes " ") (data_text bytes)
-    (invocation_no_feed script shown (codes "c") call entry cookie refl) refl (data_no_feed bytes))
+entered_no_feed : (procedure : List ℕ) → no_feed procedure ≡ true → (call cookie : ℕ) (bytes : List ℕ) (fds : List Fd) →
+    no_feed (entered_text procedure call cookie bytes fds) ≡ true
+entered_no_feed procedure shown call cookie bytes fds =
+    no_feed_append (invocation_text procedure (codes "c") call cookie ++ codes " " ++ data_text bytes) (fds_text fds)
+    (between (invocation_text procedure (codes "c") call cookie) (codes " ") (data_text bytes)
+    (invocation_no_feed procedure shown (codes "c") call cookie refl) refl (data_no_feed bytes))
     (fds_no_feed fds)
 
 results_no_feed : (bytes : List ℕ) (fds : List Fd) (grown : Bool) → no_feed (results_text bytes fds grown) ≡ true
@@ -343,33 +341,33 @@ results_no_feed bytes fds grown =
     between (codes "ok " ++ data_text bytes) (fds_text fds) (grown_text grown) (data_no_feed bytes) (fds_no_feed fds) (grown_no_feed grown)
 
 -- no answer has a line feed
-pub answer_no_feed : (script : ScriptValue) → AreShown script → (answer : Answer) → no_feed (answer_text script answer) ≡ true
-answer_no_feed script shown Wait = refl
-answer_no_feed script shown (WaitCall call) = decimal_no_feed call
-answer_no_feed script shown Done = refl
-answer_no_feed script shown (NewFd fd) = decimal_no_feed fd.0
-answer_no_feed script shown (TwoFds read write) =
+pub answer_no_feed : (names : ℕ → List ℕ) → AreShown names → (answer : Answer) → no_feed (answer_text names answer) ≡ true
+answer_no_feed names shown Wait = refl
+answer_no_feed names shown (WaitCall call) = decimal_no_feed call
+answer_no_feed names shown Done = refl
+answer_no_feed names shown (NewFd fd) = decimal_no_feed fd.0
+answer_no_feed names shown (TwoFds read write) =
     between (codes "ok fd " ++ decimal read.0) (codes " ") (decimal write.0) (decimal_no_feed read.0) refl (decimal_no_feed write.0)
-answer_no_feed script shown (Count n) = decimal_no_feed n
-answer_no_feed script shown (Available n) = decimal_no_feed n
-answer_no_feed script shown (Param value) = value_no_feed value
-answer_no_feed script shown (Info info) = info_no_feed script shown info
-answer_no_feed script shown (Client process) = decimal_no_feed process.0
-answer_no_feed script shown (Child process) = decimal_no_feed process.0
-answer_no_feed script shown (Cancel cancelled) = yes_no_feed cancelled
-answer_no_feed script shown (Data bytes) = data_no_feed bytes
-answer_no_feed script shown (Entered call entry cookie bytes fds) = entered_no_feed script shown call entry cookie bytes fds
-answer_no_feed script shown (EnteredNotice notice entry cookie) =
-    no_feed_append (invocation_text script (codes "n") notice entry cookie) (codes " unref")
-    (invocation_no_feed script shown (codes "n") notice entry cookie refl) refl
-answer_no_feed script shown (EnterFailed call) = decimal_no_feed call
-answer_no_feed script shown (Results bytes fds grown) = results_no_feed bytes fds grown
-answer_no_feed script shown (OneEvent event) = event_no_feed event
-answer_no_feed script shown (Events events) =
+answer_no_feed names shown (Count n) = decimal_no_feed n
+answer_no_feed names shown (Available n) = decimal_no_feed n
+answer_no_feed names shown (Param value) = value_no_feed value
+answer_no_feed names shown (Info info) = info_no_feed (names info.entry) (shown info.entry) info
+answer_no_feed names shown (Client process) = decimal_no_feed process.0
+answer_no_feed names shown (Child process) = decimal_no_feed process.0
+answer_no_feed names shown (Cancel cancelled) = yes_no_feed cancelled
+answer_no_feed names shown (Data bytes) = data_no_feed bytes
+answer_no_feed names shown (Entered call entry cookie bytes fds) = entered_no_feed (names entry) (shown entry) call cookie bytes fds
+answer_no_feed names shown (EnteredNotice notice entry cookie) =
+    no_feed_append (invocation_text (names entry) (codes "n") notice cookie) (codes " unref")
+    (invocation_no_feed (names entry) (shown entry) (codes "n") notice cookie refl) refl
+answer_no_feed names shown (EnterFailed call) = decimal_no_feed call
+answer_no_feed names shown (Results bytes fds grown) = results_no_feed bytes fds grown
+answer_no_feed names shown (OneEvent event) = event_no_feed event
+answer_no_feed names shown (Events events) =
     no_feed_append (codes "ok " ++ decimal (length events)) (flat_map spaced_event events) (decimal_no_feed (length events))
     (no_feed_flat_map spaced_event event_no_feed events)
-answer_no_feed script shown (Errors errors) = no_feed_flat_map spaced_error error_no_feed errors
-answer_no_feed script shown (Failure errno) = errno_no_feed errno
+answer_no_feed names shown (Errors errors) = no_feed_flat_map spaced_error error_no_feed errors
+answer_no_feed names shown (Failure errno) = errno_no_feed errno
 
 -- lines
 
@@ -378,7 +376,7 @@ five_words : (a b c d e : List ℕ) → no_feed a ≡ true → no_feed b ≡ tru
 five_words a b c d e ha hb hc hd he = rw (ha, hb, hc, hd, he) refl
 
 -- so it is in a script that a text spells
-pub entries_shown : (text : List ℕ) (script : ScriptValue) → spells text script → AreShown script
+pub entries_shown : (text : List ℕ) (script : ScriptValue) → spells text script → AreShown (procedure_name script)
 entries_shown text script s entry = named_no_feed (procedure_name script entry) (procedure_name_or_none text script s entry)
 
 -- what is shown of a thread has no line feed
@@ -390,13 +388,13 @@ pub event_line_is_one : (text : List ℕ) (script : ScriptValue) → spells text
 unfolding line_of
 event_line_is_one text script s e =
     one_line (line_of script e)
-    (no_feed_join 32 (decimal e.number ∷ thread_name script e.thread ∷ thread_name script e.root ∷ what_word e.what ∷ answer_text script e.answer ∷ []) refl
-    (five_words (decimal e.number) (thread_name script e.thread) (thread_name script e.root) (what_word e.what) (answer_text script e.answer)
+    (no_feed_join 32 (decimal e.number ∷ thread_name script e.thread ∷ thread_name script e.root ∷ what_word e.what ∷ answer_text (procedure_name script) e.answer ∷ []) refl
+    (five_words (decimal e.number) (thread_name script e.thread) (thread_name script e.root) (what_word e.what) (answer_text (procedure_name script) e.answer)
     (decimal_no_feed e.number)
     (threads_shown text script s e.thread)
     (threads_shown text script s e.root)
     (what_no_feed e.what)
-    (answer_no_feed script (entries_shown text script s) e.answer)))
+    (answer_no_feed (procedure_name script) (entries_shown text script s) e.answer)))
 
 ending_no_feed : (ending : Ending) → no_feed (ending_word ending) ≡ true
 ending_no_feed Complete = refl
