@@ -39,7 +39,7 @@ fn take_turns(alloc: Global, playing: &mut Playing) -> Result<Taken, NoMemory>
     let mut text = RunText::new(alloc);
     loop {
         match playing.next()? {
-            Told::Event { event } => text = text.with_event(alloc, playing.script(), &event)?,
+            Told::Event { event } => text = text.with_event(playing.script(), &event)?,
             Told::End { played } => return Ok(Taken { text, played }),
         }
     }

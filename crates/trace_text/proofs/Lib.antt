@@ -1,3 +1,4 @@
 pub mod PlusJoined
 pub mod NamedThreads
 pub mod RunLines
+pub mod Short

@@ -1,55 +1,49 @@
-//! Answers as a trace shows them. Want of memory may leave a part of what was to be added.
+//! Answers as lines show them. A text that adds one takes no memory; `reserve_answer` takes the room for it before.
 
-ghost use Rattle.std.specs.Prelude.{◌≡◌, ◌++◌, flat_map, decimal, OnOk};
-ghost use Rattle.script_line.specs.Words.{value_word};
+ghost use Rattle.std.specs.Prelude.{◌≡◌, ◌≤◌, ◌+◌, ◌*◌, ◌++◌, flat_map, decimal, length, OnOk};
+ghost use Rattle.dk_base.specs.Words.{errno_name};
 ghost use Rattle.script_requests.specs.Words.{answer_text, entered_text, event_text, fds_text, grown_text, info_text, invocation_text, made_text, notice_text, results_text, source_text, spaced_error, spaced_event, spaced_fd, target_text};
+ghost use Rattle.trace_text.specs.AnswerRoom.{answer_room, count_listed, shown_procedure};
+ghost use Rattle.trace_text.specs.Taken.{TakesAtMost};
 
 use super::append::{
-    push_counted, push_number, push_space, push_spaced, push_spaced_number, push_word,
+    push_counted, push_number, push_spaced, push_spaced_number, push_value, push_word,
 };
-use super::attributes::push_attributes;
 use super::data_text::push_data;
+use super::names::NamesProcedures;
+use super::sets::{push_attributes, push_poll};
 use dk_base::answer::{Answer, DoorInfo};
 use dk_base::error::{Errno, NoMemory};
-use dk_base::list::Bytes;
+use dk_base::list::Room;
 use dk_base::number::{Fd, Pid};
 use dk_base::object::{EventRec, Src};
 use dk_base::set::PollSet;
-use script_lang::script::Script;
-use script_line::sets::poll_word;
-use std::alloc::Global;
 
-fn push_fds(text: &mut Bytes, fds: &[Fd]) -> Result<(), NoMemory>
-    ensures { OnOk result (text.new ≡ text.old ++ fds_text fds.now) }
-{
-    if fds.is_empty() {
-        return Ok(());
-    }
-    push_word(text, " fd")?;
-    push_each_fd(text, fds)
-}
-
-fn push_each_fd(text: &mut Bytes, fds: &[Fd]) -> Result<(), NoMemory>
-    ensures { OnOk result (text.new ≡ text.old ++ flat_map spaced_fd fds.now) }
+fn push_each_fd(text: &mut Room<u8>, fds: &[Fd])
+    requires { 21 * length fds.now ≤ text.old.spare }
+    ensures items { text.new.items ≡ text.old.items ++ flat_map spaced_fd fds.now }
+    ensures room { TakesAtMost text.old text.new (21 * length fds.now) }
 {
     for fd in fds {
-        push_spaced_number(text, u64::from(fd.0))?;
+        push_spaced_number(text, u64::from(fd.0));
     }
-    Ok(())
 }
 
-fn push_value(text: &mut Bytes, value: u64) -> Result<(), NoMemory>
-    ensures { OnOk result (text.new ≡ text.old ++ value_word value) }
+fn push_fds(text: &mut Room<u8>, fds: &[Fd])
+    requires { 3 + 21 * length fds.now ≤ text.old.spare }
+    ensures items { text.new.items ≡ text.old.items ++ fds_text fds.now }
+    ensures room { TakesAtMost text.old text.new (3 + 21 * length fds.now) }
 {
-    if value == u64::MAX {
-        push_word(text, "max")
-    } else {
-        push_number(text, value)
+    if !fds.is_empty() {
+        push_word(text, " fd");
+        push_each_fd(text, fds);
     }
 }
 
-fn push_target(text: &mut Bytes, target: Option<Pid>) -> Result<(), NoMemory>
-    ensures { OnOk result (text.new ≡ text.old ++ target_text target) }
+fn push_target(text: &mut Room<u8>, target: Option<Pid>)
+    requires { 20 ≤ text.old.spare }
+    ensures items { text.new.items ≡ text.old.items ++ target_text target }
+    ensures room { TakesAtMost text.old text.new 20 }
 {
     match target {
         Some(process) => push_number(text, u64::from(process.0)),
@@ -57,159 +51,167 @@ fn push_target(text: &mut Bytes, target: Option<Pid>) -> Result<(), NoMemory>
     }
 }
 
-/// Whose door it is, and what it was made with.
-fn push_made(text: &mut Bytes, script: &Script, info: &DoorInfo) -> Result<(), NoMemory>
-    ensures { OnOk result (text.new ≡ text.old ++ made_text script.now info.now) }
+/// Whose door it is, and what it was made with; `procedure` is the name of the procedure.
+fn push_made(text: &mut Room<u8>, procedure: &[u8], info: &DoorInfo)
+    requires { length procedure.now + 64 ≤ text.old.spare }
+    ensures items { text.new.items ≡ text.old.items ++ made_text procedure.now info.now }
+    ensures room { TakesAtMost text.old text.new (length procedure.now + 64) }
 {
-    push_word(text, "ok target ")?;
-    push_target(text, info.target)?;
-    push_word(text, " proc")?;
-    push_spaced(text, script.name_of_procedure(info.entry))?;
-    push_counted(text, " cookie ", info.cookie)
+    push_word(text, "ok target ");
+    push_target(text, info.target);
+    push_word(text, " proc");
+    push_spaced(text, procedure);
+    push_counted(text, " cookie ", info.cookie);
 }
 
 /// What door_info(3C) tells.
-fn push_info(text: &mut Bytes, script: &Script, info: &DoorInfo) -> Result<(), NoMemory>
-    ensures { OnOk result (text.new ≡ text.old ++ info_text script.now info.now) }
+fn push_info(text: &mut Room<u8>, procedure: &[u8], info: &DoorInfo)
+    requires { length procedure.now + 198 ≤ text.old.spare }
+    ensures items { text.new.items ≡ text.old.items ++ info_text procedure.now info.now }
+    ensures room { TakesAtMost text.old text.new (length procedure.now + 198) }
 {
-    push_made(text, script, info)?;
-    push_word(text, " attr ")?;
-    push_attributes(text, info.attrs)?;
-    push_counted(text, " unique ", info.unique)
+    push_made(text, procedure, info);
+    push_word(text, " attr ");
+    push_attributes(text, info.attrs);
+    push_counted(text, " unique ", info.unique);
 }
 
-fn push_source(text: &mut Bytes, event: EventRec) -> Result<(), NoMemory>
-    ensures { OnOk result (text.new ≡ text.old ++ source_text event.source event) }
+fn push_source(text: &mut Room<u8>, event: EventRec)
+    requires { 48 ≤ text.old.spare }
+    ensures items { text.new.items ≡ text.old.items ++ source_text event.source event }
+    ensures room { TakesAtMost text.old text.new 48 }
 {
     match event.source {
         Src::Fd => {
-            push_counted(text, "fd:", u64::from(event.object))?;
-            push_word(text, ":")?;
-            push_word(text, poll_word(PollSet(event.events)))
+            push_counted(text, "fd:", u64::from(event.object));
+            push_word(text, ":");
+            push_poll(text, PollSet(event.events));
         }
         Src::User => push_counted(text, "user:0:", u64::from(event.events)),
         Src::Alert => push_counted(text, "alert:0:", u64::from(event.events)),
         Src::Timer => {
-            push_counted(text, "timer:", u64::from(event.object))?;
-            push_counted(text, ":", u64::from(event.events))
+            push_counted(text, "timer:", u64::from(event.object));
+            push_counted(text, ":", u64::from(event.events));
         }
     }
 }
 
-fn push_event(text: &mut Bytes, event: EventRec) -> Result<(), NoMemory>
-    ensures { OnOk result (text.new ≡ text.old ++ event_text event) }
+fn push_event(text: &mut Room<u8>, event: EventRec)
+    requires { 69 ≤ text.old.spare }
+    ensures items { text.new.items ≡ text.old.items ++ event_text event }
+    ensures room { TakesAtMost text.old text.new 69 }
 {
-    push_source(text, event)?;
-    push_counted(text, ":", event.user)
+    push_source(text, event);
+    push_counted(text, ":", event.user);
 }
 
-fn push_events(text: &mut Bytes, events: &[EventRec]) -> Result<(), NoMemory>
-    ensures { OnOk result (text.new ≡ text.old ++ flat_map spaced_event events.now) }
+fn push_events(text: &mut Room<u8>, events: &[EventRec])
+    requires { 70 * length events.now ≤ text.old.spare }
+    ensures items { text.new.items ≡ text.old.items ++ flat_map spaced_event events.now }
+    ensures room { TakesAtMost text.old text.new (70 * length events.now) }
 {
     for event in events {
-        push_space(text)?;
-        push_event(text, *event)?;
+        push_word(text, " ");
+        push_event(text, *event);
     }
-    Ok(())
 }
 
-fn push_error(text: &mut Bytes, error: Option<Errno>) -> Result<(), NoMemory>
-    ensures { OnOk result (text.new ≡ text.old ++ spaced_error error) }
+#[tactic(auto, using(crate::proofs::Short::errno_short))]
+fn push_errno(text: &mut Room<u8>, errno: Errno)
+    requires { 7 ≤ text.old.spare }
+    ensures items { text.new.items ≡ text.old.items ++ errno_name errno }
+    ensures room { TakesAtMost text.old text.new 7 }
 {
+    push_word(text, errno.name());
+}
+
+fn push_error(text: &mut Room<u8>, error: Option<Errno>)
+    requires { 8 ≤ text.old.spare }
+    ensures items { text.new.items ≡ text.old.items ++ spaced_error error }
+    ensures room { TakesAtMost text.old text.new 8 }
+{
+    push_word(text, " ");
     match error {
-        Some(errno) => push_spaced(text, errno.name().as_bytes()),
-        None => push_word(text, " ok"),
+        Some(errno) => push_errno(text, errno),
+        None => push_word(text, "ok"),
     }
 }
 
-fn push_errors(text: &mut Bytes, errors: &[Option<Errno>]) -> Result<(), NoMemory>
-    ensures { OnOk result (text.new ≡ text.old ++ flat_map spaced_error errors.now) }
+fn push_errors(text: &mut Room<u8>, errors: &[Option<Errno>])
+    requires { 8 * length errors.now ≤ text.old.spare }
+    ensures items { text.new.items ≡ text.old.items ++ flat_map spaced_error errors.now }
+    ensures room { TakesAtMost text.old text.new (8 * length errors.now) }
 {
     for error in errors {
-        push_error(text, *error)?;
+        push_error(text, *error);
     }
-    Ok(())
 }
 
-/// How an invocation begins; `item` is the letter of what it serves.
-fn push_invocation(
-    text: &mut Bytes,
-    script: &Script,
-    item: &str,
-    number: u32,
-    entry: u32,
-    cookie: u64,
-) -> Result<(), NoMemory>
-    ensures { OnOk result (text.new ≡ text.old ++ invocation_text script.now item.now number entry cookie) }
+/// How an invocation begins; `item` is the letter of what it serves, `procedure` the name of the procedure.
+fn push_invocation(text: &mut Room<u8>, procedure: &[u8], item: &str, number: u32, cookie: u64)
+    requires { length procedure.now + length item.now + 48 ≤ text.old.spare }
+    ensures items { text.new.items ≡ text.old.items ++ invocation_text procedure.now item.now number cookie }
+    ensures room { TakesAtMost text.old text.new (length procedure.now + length item.now + 48) }
 {
-    push_word(text, "enter ")?;
-    push_counted(text, item, u64::from(number))?;
-    push_spaced(text, script.name_of_procedure(entry))?;
-    push_spaced_number(text, cookie)
+    push_word(text, "enter ");
+    push_counted(text, item, u64::from(number));
+    push_spaced(text, procedure);
+    push_spaced_number(text, cookie);
 }
 
 fn push_entered(
-    alloc: Global,
-    text: &mut Bytes,
-    script: &Script,
+    text: &mut Room<u8>,
+    procedure: &[u8],
     call: u32,
-    entry: u32,
     cookie: u64,
     bytes: &[u8],
     fds: &[Fd],
-) -> Result<(), NoMemory>
-    ensures { OnOk result (text.new ≡ text.old ++ entered_text script.now call entry cookie bytes.now fds.now) }
+)
+    requires { length procedure.now + 311 + 21 * length fds.now ≤ text.old.spare }
+    ensures items { text.new.items ≡ text.old.items ++ entered_text procedure.now call cookie bytes.now fds.now }
+    ensures room { TakesAtMost text.old text.new (length procedure.now + 311 + 21 * length fds.now) }
 {
-    push_invocation(text, script, "c", call, entry, cookie)?;
-    push_space(text)?;
-    push_data(alloc, text, bytes)?;
-    push_fds(text, fds)
+    push_invocation(text, procedure, "c", call, cookie);
+    push_word(text, " ");
+    push_data(text, bytes);
+    push_fds(text, fds);
 }
 
-fn push_notice(
-    text: &mut Bytes,
-    script: &Script,
-    notice: u32,
-    entry: u32,
-    cookie: u64,
-) -> Result<(), NoMemory>
-    ensures { OnOk result (text.new ≡ text.old ++ notice_text script.now notice entry cookie) }
+fn push_notice(text: &mut Room<u8>, procedure: &[u8], notice: u32, cookie: u64)
+    requires { length procedure.now + 55 ≤ text.old.spare }
+    ensures items { text.new.items ≡ text.old.items ++ notice_text procedure.now notice cookie }
+    ensures room { TakesAtMost text.old text.new (length procedure.now + 55) }
 {
-    push_invocation(text, script, "n", notice, entry, cookie)?;
-    push_word(text, " unref")
+    push_invocation(text, procedure, "n", notice, cookie);
+    push_word(text, " unref");
 }
 
-fn push_grown(text: &mut Bytes, grown: bool) -> Result<(), NoMemory>
-    ensures { OnOk result (text.new ≡ text.old ++ grown_text grown) }
+fn push_grown(text: &mut Room<u8>, grown: bool)
+    requires { 6 ≤ text.old.spare }
+    ensures items { text.new.items ≡ text.old.items ++ grown_text grown }
+    ensures room { TakesAtMost text.old text.new 6 }
 {
     if grown {
-        push_word(text, " grown")?;
+        push_word(text, " grown");
     }
-    Ok(())
 }
 
-fn push_results(
-    alloc: Global,
-    text: &mut Bytes,
-    bytes: &[u8],
-    fds: &[Fd],
-    grown: bool,
-) -> Result<(), NoMemory>
-    ensures { OnOk result (text.new ≡ text.old ++ results_text bytes.now fds.now grown) }
+fn push_results(text: &mut Room<u8>, bytes: &[u8], fds: &[Fd], grown: bool)
+    requires { 270 + 21 * length fds.now ≤ text.old.spare }
+    ensures items { text.new.items ≡ text.old.items ++ results_text bytes.now fds.now grown }
+    ensures room { TakesAtMost text.old text.new (270 + 21 * length fds.now) }
 {
-    push_word(text, "ok ")?;
-    push_data(alloc, text, bytes)?;
-    push_fds(text, fds)?;
-    push_grown(text, grown)
+    push_word(text, "ok ");
+    push_data(text, bytes);
+    push_fds(text, fds);
+    push_grown(text, grown);
 }
 
-pub fn push_answer(
-    alloc: Global,
-    text: &mut Bytes,
-    script: &Script,
-    answer: &Answer,
-) -> Result<(), NoMemory>
-    ensures { OnOk result (text.new ≡ text.old ++ answer_text script.now answer.now) }
+/// The answer's text after a text; `names` is what procedures are called. It takes no memory.
+pub fn push_answer<N: NamesProcedures>(text: &mut Room<u8>, names: &N, answer: &Answer)
+    requires { answer_room (N.procedures names.now) answer.now ≤ text.old.spare }
+    ensures items { text.new.items ≡ text.old.items ++ answer_text (N.procedures names.now) answer.now }
+    ensures room { TakesAtMost text.old text.new (answer_room (N.procedures names.now) answer.now) }
 {
     match answer {
         Answer::Wait => push_word(text, "wait"),
@@ -217,21 +219,21 @@ pub fn push_answer(
         Answer::Done => push_word(text, "ok"),
         Answer::NewFd { fd } => push_counted(text, "ok fd ", u64::from(fd.0)),
         Answer::TwoFds { read, write } => {
-            push_counted(text, "ok fd ", u64::from(read.0))?;
-            push_spaced_number(text, u64::from(write.0))
+            push_counted(text, "ok fd ", u64::from(read.0));
+            push_spaced_number(text, u64::from(write.0));
         }
         Answer::Count { n } | Answer::Available { n } => push_counted(text, "ok ", u64::from(*n)),
         Answer::Param { value } => {
-            push_word(text, "ok ")?;
-            push_value(text, *value)
+            push_word(text, "ok ");
+            push_value(text, *value);
         }
-        Answer::Info(info) => push_info(text, script, info),
+        Answer::Info(info) => push_info(text, names.name_of_procedure(info.entry), info),
         Answer::Client { process } => push_counted(text, "ok process ", u64::from(process.0)),
         Answer::Child { process } => push_counted(text, "ok process ", u64::from(process.0)),
         Answer::Cancel { yes } => push_word(text, if *yes { "ok yes" } else { "ok no" }),
         Answer::Data { bytes } => {
-            push_word(text, "ok ")?;
-            push_data(alloc, text, bytes.slice())
+            push_word(text, "ok ");
+            push_data(text, bytes.slice());
         }
         Answer::Entered {
             call,
@@ -240,11 +242,9 @@ pub fn push_answer(
             bytes,
             fds,
         } => push_entered(
-            alloc,
             text,
-            script,
+            names.name_of_procedure(*entry),
             *call,
-            *entry,
             *cookie,
             bytes.slice(),
             fds.slice(),
@@ -253,23 +253,66 @@ pub fn push_answer(
             notice,
             entry,
             cookie,
-        } => push_notice(text, script, *notice, *entry, *cookie),
+        } => push_notice(text, names.name_of_procedure(*entry), *notice, *cookie),
         Answer::EnterFailed { call } => push_counted(text, "EMFILE c", u64::from(*call)),
         Answer::Results { bytes, fds, grown } => {
-            push_results(alloc, text, bytes.slice(), fds.slice(), *grown)
+            push_results(text, bytes.slice(), fds.slice(), *grown);
         }
         Answer::OneEvent(event) => {
-            push_word(text, "ok ")?;
-            push_event(text, *event)
+            push_word(text, "ok ");
+            push_event(text, *event);
         }
         Answer::Events(events) => {
-            push_counted(text, "ok ", events.len() as u64)?;
-            push_events(text, events.slice())
+            push_counted(text, "ok ", events.len() as u64);
+            push_events(text, events.slice());
         }
         Answer::Errors(errors) => {
-            push_word(text, "ok")?;
-            push_errors(text, errors.slice())
+            push_word(text, "ok");
+            push_errors(text, errors.slice());
         }
-        Answer::Failure(errno) => push_word(text, errno.name()),
+        Answer::Failure(errno) => push_errno(text, *errno),
     }
+}
+
+/// How many descriptors, events or errors it lists.
+fn listed(answer: &Answer) -> usize
+    ensures { result ≡ count_listed answer.now }
+{
+    match answer {
+        Answer::Entered { fds, .. } | Answer::Results { fds, .. } => fds.len(),
+        Answer::Events(events) => events.len(),
+        Answer::Errors(errors) => errors.len(),
+        _ => 0,
+    }
+}
+
+/// The name of the procedure that it shows, if it shows one.
+fn procedure_of<'a, N: NamesProcedures>(names: &'a N, answer: &Answer) -> &'a [u8]
+    ensures { result.now ≡ shown_procedure (N.procedures names.now) answer.now }
+{
+    match answer {
+        Answer::Info(info) => names.name_of_procedure(info.entry),
+        Answer::Entered { entry, .. } | Answer::EnteredNotice { entry, .. } => {
+            names.name_of_procedure(*entry)
+        }
+        _ => &[],
+    }
+}
+
+/// Takes room for the answer's text.
+pub fn reserve_answer<N: NamesProcedures>(
+    text: &mut Room<u8>,
+    names: &N,
+    answer: &Answer,
+) -> Result<(), NoMemory>
+    ensures items { text.new.items ≡ text.old.items }
+    ensures spare { OnOk result (answer_room (N.procedures names.now) answer.now ≤ text.new.spare) }
+{
+    let Some(items) = listed(answer).checked_mul(70) else {
+        return Err(NoMemory);
+    };
+    let Some(room) = items.checked_add(320 + procedure_of(names, answer).len()) else {
+        return Err(NoMemory);
+    };
+    text.reserve(room)
 }

@@ -1,63 +1,73 @@
-//! What every part of a trace is made of. Each call adds to the end of a text; want of memory may leave a part of what
-//! was to be added.
+//! What every part of a line is made of. Each call adds to the end of a text, in room that was taken before: it takes no memory.
 
-ghost use Rattle.std.specs.Prelude.{◌≡◌, ◌∷◌, ◌++◌, [], decimal, OnOk};
+ghost use Rattle.std.specs.Prelude.{◌≡◌, ◌≤◌, ◌+◌, ◌∷◌, ◌++◌, [], decimal, length};
+ghost use Rattle.script_line.specs.Words.{value_word};
+ghost use Rattle.trace_text.specs.Taken.{TakesAtMost};
 
-use dk_base::error::NoMemory;
-use dk_base::list::Bytes;
+use dk_base::list::Room;
 use itoa::Buffer;
 
-pub fn push_word(text: &mut Bytes, word: &str) -> Result<(), NoMemory>
-    ensures { OnOk result (text.new ≡ text.old ++ word.now) }
+pub fn push_word(text: &mut Room<u8>, word: &str)
+    requires { length word.now ≤ text.old.spare }
+    ensures items { text.new.items ≡ text.old.items ++ word.now }
+    ensures room { TakesAtMost text.old text.new (length word.now) }
 {
-    text.append(word.as_bytes())
-}
-
-/// One space.
-pub fn push_space(text: &mut Bytes) -> Result<(), NoMemory>
-    ensures { OnOk result (text.new ≡ text.old ++ 32 ∷ []) }
-{
-    text.push(b' ')
+    text.append(word.as_bytes());
 }
 
 /// A space, and a word after it.
-pub fn push_spaced(text: &mut Bytes, word: &[u8]) -> Result<(), NoMemory>
-    ensures { OnOk result (text.new ≡ text.old ++ 32 ∷ word.now) }
+pub fn push_spaced(text: &mut Room<u8>, word: &[u8])
+    requires { length word.now + 1 ≤ text.old.spare }
+    ensures items { text.new.items ≡ text.old.items ++ 32 ∷ word.now }
+    ensures room { TakesAtMost text.old text.new (length word.now + 1) }
 {
-    push_space(text)?;
-    text.append(word)
-}
-
-/// The end of a line.
-pub fn push_line_end(text: &mut Bytes) -> Result<(), NoMemory>
-    ensures { OnOk result (text.new ≡ text.old ++ 10 ∷ []) }
-{
-    text.push(b'\n')
+    text.push(b' ');
+    text.append(word);
 }
 
 /// In decimal.
 #[tactic(auto, using(std::proofs::lemmas::Fmt::decimal_digit))]
-pub fn push_number(text: &mut Bytes, number: u64) -> Result<(), NoMemory>
-    ensures { OnOk result (text.new ≡ text.old ++ decimal number) }
+pub fn push_number(text: &mut Room<u8>, number: u64)
+    requires { 20 ≤ text.old.spare }
+    ensures items { text.new.items ≡ text.old.items ++ decimal number }
+    ensures room { TakesAtMost text.old text.new 20 }
 {
     if number < 10 {
-        return text.push(b'0' + number as u8);
+        text.push(b'0' + number as u8);
+        return;
     }
-    push_word(text, Buffer::new().format(number))
+    text.append(Buffer::new().format(number).as_bytes());
 }
 
 /// A space, and a number after it.
-pub fn push_spaced_number(text: &mut Bytes, number: u64) -> Result<(), NoMemory>
-    ensures { OnOk result (text.new ≡ text.old ++ 32 ∷ decimal number) }
+pub fn push_spaced_number(text: &mut Room<u8>, number: u64)
+    requires { 21 ≤ text.old.spare }
+    ensures items { text.new.items ≡ text.old.items ++ 32 ∷ decimal number }
+    ensures room { TakesAtMost text.old text.new 21 }
 {
-    push_space(text)?;
-    push_number(text, number)
+    text.push(b' ');
+    push_number(text, number);
 }
 
 /// A word, and a number after it.
-pub fn push_counted(text: &mut Bytes, word: &str, number: u64) -> Result<(), NoMemory>
-    ensures { OnOk result (text.new ≡ text.old ++ word.now ++ decimal number) }
+pub fn push_counted(text: &mut Room<u8>, word: &str, number: u64)
+    requires { length word.now + 20 ≤ text.old.spare }
+    ensures items { text.new.items ≡ text.old.items ++ word.now ++ decimal number }
+    ensures room { TakesAtMost text.old text.new (length word.now + 20) }
 {
-    push_word(text, word)?;
-    push_number(text, number)
+    push_word(text, word);
+    push_number(text, number);
+}
+
+/// In decimal, or `max` where it is the greatest number.
+pub fn push_value(text: &mut Room<u8>, value: u64)
+    requires { 20 ≤ text.old.spare }
+    ensures items { text.new.items ≡ text.old.items ++ value_word value }
+    ensures room { TakesAtMost text.old text.new 20 }
+{
+    if value == u64::MAX {
+        push_word(text, "max");
+    } else {
+        push_number(text, value);
+    }
 }

@@ -4,12 +4,12 @@ ghost use Rattle.std.specs.Prelude.{◌≡◌, ◌∷◌, ◌++◌, [], List, If
 ghost use Rattle.script_requests.specs.Types.{Event as EventValue};
 ghost use Rattle.script_requests.specs.Words.{lines_text, refused_text, trace_text};
 
-use super::append::push_line_end;
 use super::event_line::push_whole_line;
+use super::grown::add_line_end;
 use super::last_line::{push_end_line, push_refused_line};
 use dk_base::error::NoMemory;
 use dk_base::event::Event;
-use dk_base::list::{Bytes, TidList};
+use dk_base::list::{Bytes, Room, TidList};
 use dk_base::number::Tid;
 use script_lang::script::Script;
 use script_requests::ending::Ending;
@@ -19,7 +19,7 @@ use std::marker::Model;
 /// The lines of the events so far. Each call that may want memory takes them, so that after an error there are none.
 #[derive(Drop)]
 pub struct RunText {
-    text: Bytes,
+    text: Room<u8>,
 }
 
 impl Model for RunText {
@@ -27,7 +27,7 @@ impl Model for RunText {
 
     ghost Value = { List ℕ };
 
-    ghost view = { λ t. t.text };
+    ghost view = { λ t. t.text.items };
 }
 
 impl RunText {
@@ -36,17 +36,17 @@ impl RunText {
         ensures { result ≡ [] }
     {
         RunText {
-            text: Bytes::new(alloc),
+            text: Room::new(alloc),
         }
     }
 
     /// The line of another event follows.
     #[tactic(auto, using(crate::proofs::RunLines::one_more))]
-    pub fn with_event(self, alloc: Global, script: &Script, event: &Event) -> Result<Self, NoMemory>
+    pub fn with_event(self, script: &Script, event: &Event) -> Result<Self, NoMemory>
         ensures { IfOk result (λ text. (es : List EventValue) → self ≡ lines_text script.now es → text ≡ lines_text script.now (es ++ event.now ∷ [])) }
     {
         let mut text = self.text;
-        push_whole_line(alloc, &mut text, script, event)?;
+        push_whole_line(&mut text, script, event)?;
         Ok(RunText { text })
     }
 
@@ -64,8 +64,8 @@ impl RunText {
     {
         let mut text = self.text;
         push_end_line(&mut text, script, ending, count, waiting.slice())?;
-        push_line_end(&mut text)?;
-        Ok(text)
+        add_line_end(&mut text)?;
+        Ok(text.into_list())
     }
 
     /// The text of a run that ends since a turn of its schedule, counted from 1, is refused: its thread could not take it.
@@ -80,7 +80,7 @@ impl RunText {
     {
         let mut text = self.text;
         push_refused_line(&mut text, script, turn, thread)?;
-        push_line_end(&mut text)?;
-        Ok(text)
+        add_line_end(&mut text)?;
+        Ok(text.into_list())
     }
 }

@@ -3,12 +3,12 @@
 ghost use Rattle.std.specs.Prelude.{◌≡◌, ◌++◌, Some, IfOk, OnOk};
 ghost use Rattle.script_requests.specs.Words.{end_line_of, line_of, tail_text, trace_text};
 
-use super::append::push_line_end;
 use super::event_line::{push_line, push_lines};
+use super::grown::add_line_end;
 use super::last_line::{push_end_line, push_tail};
 use dk_base::error::NoMemory;
 use dk_base::event::Event;
-use dk_base::list::{Bytes, TidList};
+use dk_base::list::{Bytes, Room, TidList};
 use script_lang::script::Script;
 use script_requests::ending::Ending;
 use std::alloc::Global;
@@ -18,9 +18,9 @@ use std::alloc::Global;
 pub fn line(alloc: Global, script: &Script, event: &Event) -> Result<Bytes, NoMemory>
     ensures { IfOk result (λ text. text ≡ line_of script.now event.now) }
 {
-    let mut text = Bytes::new(alloc);
-    push_line(alloc, &mut text, script, event)?;
-    Ok(text)
+    let mut text = Room::new(alloc);
+    push_line(&mut text, script, event)?;
+    Ok(text.into_list())
 }
 
 /// The end line of a run of `n` events, without a line feed. `waiting` are the threads that wait at the end, of which a
@@ -34,26 +34,25 @@ pub fn end_line(
 ) -> Result<Bytes, NoMemory>
     ensures { IfOk result (λ text. text ≡ end_line_of script.now ending n waiting.now) }
 {
-    let mut text = Bytes::new(alloc);
+    let mut text = Room::new(alloc);
     push_end_line(&mut text, script, ending, u64::from(n), waiting.slice())?;
-    Ok(text)
+    Ok(text.into_list())
 }
 
 /// Adds the line of each event and the end line.
 #[tactic(auto, unfolding(script_requests::specs::TraceText::trace_text))]
 fn push_run(
-    alloc: Global,
-    text: &mut Bytes,
+    text: &mut Room<u8>,
     script: &Script,
     events: &[Event],
     ending: Ending,
     waiting: &TidList,
 ) -> Result<(), NoMemory>
-    ensures { OnOk result (text.new ≡ text.old ++ trace_text script.now events.now ending waiting.now) }
+    ensures { OnOk result (text.new.items ≡ text.old.items ++ trace_text script.now events.now ending waiting.now) }
 {
-    push_lines(alloc, text, script, events)?;
+    push_lines(text, script, events)?;
     push_end_line(text, script, ending, events.len() as u64, waiting.slice())?;
-    push_line_end(text)
+    add_line_end(text)
 }
 
 /// The text of a run with these events and this end, with the line `tail N` after it, for any number; `waiting` are the threads that wait
@@ -68,8 +67,8 @@ pub fn text_with_tail(
 ) -> Result<Bytes, NoMemory>
     ensures { IfOk result (λ text. text ≡ trace_text script.now events.now ending waiting.now ++ tail_text (Some tail)) }
 {
-    let mut text = Bytes::new(alloc);
-    push_run(alloc, &mut text, script, events, ending, waiting)?;
+    let mut text = Room::new(alloc);
+    push_run(&mut text, script, events, ending, waiting)?;
     push_tail(&mut text, tail)?;
-    Ok(text)
+    Ok(text.into_list())
 }

@@ -1,10 +1,14 @@
-ghost use Rattle.std.specs.Prelude.{◌≡◌};
+//! The word by which a line shows what an event is.
+
+ghost use Rattle.std.specs.Prelude.{◌≡◌, ◌≤◌, ◌++◌};
 ghost use Rattle.script_requests.specs.Words.{what_word};
+ghost use Rattle.trace_text.specs.Taken.{TakesAtMost};
 
+use super::append::push_word;
 use dk_base::event::What;
+use dk_base::list::Room;
 
-/// The word by which a trace shows what an event is.
-pub fn word_of(what: What) -> &'static str
+fn word_of(what: What) -> &'static str
     ensures { result.now ≡ what_word what }
 {
     match what {
@@ -53,4 +57,13 @@ pub fn word_of(what: What) -> &'static str
         What::Done => "done",
         What::Woken => "woken",
     }
+}
+
+#[tactic(auto, using(crate::proofs::Short::what_short))]
+pub fn push_what(text: &mut Room<u8>, what: What)
+    requires { 10 ≤ text.old.spare }
+    ensures items { text.new.items ≡ text.old.items ++ what_word what }
+    ensures room { TakesAtMost text.old text.new 10 }
+{
+    push_word(text, word_of(what));
 }

@@ -366,7 +366,7 @@ fn end_lines<R: Abort>(rt: &R, alloc: Global, script: &Script, waiting: &TidList
 fn lines_of(alloc: Global, script: &Script, events: &[Event]) -> Result<RunText, NoMemory> {
     let mut text = RunText::new(alloc);
     for event in events {
-        text = text.with_event(alloc, script, event)?;
+        text = text.with_event(script, event)?;
     }
     Ok(text)
 }

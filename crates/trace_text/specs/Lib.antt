@@ -1,0 +1,2 @@
+pub mod AnswerRoom
+pub mod Taken
