@@ -6,7 +6,7 @@ pub mod answer;
 pub mod append;
 pub mod data_text;
 mod event_line;
-mod grown;
+pub mod grown;
 mod last_line;
 mod names;
 mod run_text;

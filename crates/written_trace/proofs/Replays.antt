@@ -7,7 +7,8 @@ use Rattle.dk_base.specs.declared.answer.Answer.TheVariants as answer
 use Rattle.written_kernel.specs.Words.{asked_with, event_of, is_running, least_runnable, line_in, process_of, reply_after, step, waiting_threads, with_reply}
 use Rattle.script_lang.specs.Words.{ScriptValue}
 use Rattle.script_requests.specs.Types.{Answer, Event, Request, Tid}
-use Rattle.script_requests.specs.Words.{Frame, answer_text, end_line_of, first_frame, frame_after, frame_after_answer, frame_from, line_of, lines_text, procedure_name, request_after, request_of, spaced_name, trace_text, waiting_text}
+use Rattle.script_requests.specs.Words.{Frame, answer_text, end_line_of, first_frame, frame_after, frame_after_answer, frame_from, line_of, lines_text, request_after, request_of, spaced_name, trace_text, waiting_text}
+use Rattle.script_requests.specs.TraceNames.{procedure_name}
 use Rattle.script_requests.specs.declared.ending.Ending.{Ending}
 use Rattle.script_requests.specs.declared.ending.Ending.TheVariants.{Complete, Stalled, Budget}
 use Rattle.written_script.specs.ScriptRuns.{AreRunnableFrom}
