@@ -1,6 +1,5 @@
 pub mod Checks
 pub mod Frames
-pub mod Fronts
 pub mod LineCounts
 pub mod Loads
 pub mod LoadWords

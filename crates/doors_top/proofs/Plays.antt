@@ -6,7 +6,7 @@ use Rattle.script_lang.specs.Words.{ScriptValue}
 use Rattle.script_requests.specs.Words.{refused_text}
 use Rattle.written_script.specs.Words.{History, IsRefusedPlay, IsWholePlay, Refusal, ending_of, refusal, text_of_history, threads_of_events, turns_before, turns_of_play}
 use Rattle.sys_run.specs.Words.{IsBefore, IsPlay, LawsOf, SysValue, history, refusal_at}
-use Rattle.doors_top.specs.declared.reading.ReadText.{ReadText}
+use Rattle.whole_text.specs.declared.reading.ReadText.{ReadText}
 use Rattle.doors_top.specs.declared.status.Status.{Status}
 use Rattle.doors_top.specs.declared.status.Status.TheVariants.{Script}
 use Rattle.doors_top.specs.Outcomes.{outcome_of_bad, outcome_of_played, outcome_of_turns, outcome_with, script_of_input}

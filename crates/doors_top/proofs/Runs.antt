@@ -9,8 +9,8 @@ use Rattle.written_script.specs.Words.{IsAllowed, ending_of, is_over, text_of_hi
 use Rattle.written_script.specs.ScriptRuns.{thread_of_event}
 use Rattle.written_trace.specs.Words.{IsFrontOf, IsFrontOfRun, IsTrace, turns_in}
 use Rattle.sys_run.specs.Words.{LawsOf, SysValue, history}
-use Rattle.doors_top.specs.declared.reading.ReadText.{ReadText}
-use Rattle.doors_top.specs.declared.reading.ReadText.TheVariants.{Whole, TooLong}
+use Rattle.whole_text.specs.declared.reading.ReadText.{ReadText}
+use Rattle.whole_text.specs.declared.reading.ReadText.TheVariants.{Whole, TooLong}
 use Rattle.doors_top.specs.Input.{IsSpelled}
 use Rattle.doors_top.specs.declared.status.Status.{Status}
 use Rattle.doors_top.specs.declared.status.Status.TheVariants.{Script}

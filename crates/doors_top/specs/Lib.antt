@@ -2,4 +2,3 @@ pub mod Outcomes
 pub mod Input
 pub mod Status
 pub mod Top
-pub mod Output

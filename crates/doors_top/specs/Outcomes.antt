@@ -4,10 +4,10 @@ use Rattle.std.specs.Borrow.{Bor}
 use Rattle.written_kernel.specs.Types.{Tid}
 use Rattle.doors_top.specs.declared.status.Status.{Status}
 use Rattle.doors_top.specs.declared.status.Status.TheVariants as status
-use Rattle.doors_top.specs.declared.reading.ReadText.{ReadText}
-use Rattle.doors_top.specs.declared.reading.ReadText.TheVariants.{Whole, TooLong}
+use Rattle.whole_text.specs.declared.reading.ReadText.{ReadText}
+use Rattle.whole_text.specs.declared.reading.ReadText.TheVariants.{Whole, TooLong}
 use Rattle.doors_top.specs.declared.script_in.TheConstants.{SCRIPT_LIMIT}
-use Rattle.doors_top.specs.Input.{text_within_limit}
+use Rattle.whole_text.specs.Input.{text_within_limit}
 use Rattle.doors_top.specs.Status.{status_of_ending, status_of_verdict}
 use Rattle.script_line.specs.declared.reason.Reason.TheVariants.{Size, Trace}
 use Rattle.script_requests.specs.Types.{Bad}

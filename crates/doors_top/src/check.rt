@@ -4,11 +4,10 @@ ghost use Rattle.script_text.specs.Words.{lines_of};
 ghost use Rattle.written_trace.specs.Words.{verdict};
 ghost use Rattle.doors_top.specs.declared.script_in.TheConstants.{SCRIPT_LIMIT};
 ghost use Rattle.doors_top.specs.Outcomes.{outcome_of_check, outcome_of_parts, outcome_of_trace, outcome_of_verdict, outcome_with};
-ghost use Rattle.doors_top.specs.declared.reading.ReadText.{ReadText};
+ghost use Rattle.whole_text.specs.declared.reading.ReadText.{ReadText};
 ghost use Rattle.doors_top.specs.Status.{status_of_verdict};
 ghost use Rattle.doors_top.specs.Top.{IsAnswer, IsChecked};
 
-use crate::reading::ReadText;
 use crate::reply::{Reply, reply_for_bad};
 use crate::script_in::{SCRIPT_LIMIT, script_of_text, too_long};
 use crate::status::Status;
@@ -19,6 +18,7 @@ use script_line::reason::Reason;
 use script_text::lines::next_line;
 use std::alloc::Global;
 use trace_check::{parts, text_of_verdict};
+use whole_text::reading::ReadText;
 use written_trace::verdict::Verdict;
 
 fn status_of(found: &Verdict) -> Status

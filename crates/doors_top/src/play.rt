@@ -4,12 +4,11 @@ ghost use Rattle.script_requests.specs.Words.{lines_text, refused_text};
 ghost use Rattle.written_script.specs.Words.{ending_of, refusal, text_of_history};
 ghost use Rattle.sys_run.specs.Words.{EndsPlay, LawsOf, history};
 ghost use Rattle.doors_top.specs.declared.script_in.TheConstants.{SCRIPT_LIMIT};
-ghost use Rattle.doors_top.specs.Input.{IsWithinLimit};
+ghost use Rattle.whole_text.specs.Input.{IsWithinLimit};
 ghost use Rattle.doors_top.specs.Outcomes.{outcome_of_turns, outcome_with};
 ghost use Rattle.doors_top.specs.Status.{status_of_ending};
 ghost use Rattle.doors_top.specs.Top.{IsAnswer, IsPlayed, LawsOfScript};
 
-use crate::reading::ReadText;
 use crate::reply::{Reply, reply_for_bad};
 use crate::script_in::script_in;
 use crate::status::Status;
@@ -20,6 +19,7 @@ use std::alloc::Global;
 use sys_run::playing::{Playing, Told};
 use sys_run::sys::Played;
 use trace_text::RunText;
+use whole_text::reading::ReadText;
 
 /// What was told of a run: the lines of its events, and how it ended.
 #[derive(Drop)]

@@ -5,11 +5,11 @@ ghost use Rattle.written_script.specs.Words.{ending_of, is_over, text_of_history
 ghost use Rattle.sys_run.specs.Words.{LawsOf, history};
 ghost use Rattle.doors_top.specs.declared.script_in.TheConstants.{SCRIPT_LIMIT};
 ghost use Rattle.doors_top.specs.Outcomes.{outcome_with};
-ghost use Rattle.doors_top.specs.Input.{IsSpelled, IsWithinLimit};
+ghost use Rattle.doors_top.specs.Input.{IsSpelled};
+ghost use Rattle.whole_text.specs.Input.{IsWithinLimit};
 ghost use Rattle.doors_top.specs.Status.{status_of_ending};
 ghost use Rattle.doors_top.specs.Top.{IsAnswer, IsOfSomeRun, IsRan};
 
-use crate::reading::ReadText;
 use crate::reply::{Reply, reply_for_bad};
 use crate::script_in::script_in;
 use crate::status::Status;
@@ -22,6 +22,7 @@ use std::sync::Wait;
 use std::thread::Threads;
 use sys_run::sys::Sys;
 use trace_text::text_with_tail;
+use whole_text::reading::ReadText;
 
 /// The text of a run that is over, with the line `tail N` after it.
 fn reply_with_tail(alloc: Global, sys: &Sys, tail: u64) -> Result<Reply, NoMemory>

@@ -2,11 +2,10 @@
 ghost use Rattle.std.specs.Prelude.{◌≡◌, ◌≤◌, length, IfOk};
 ghost use Rattle.script_lang.specs.Words.{bad_line, parse_result};
 ghost use Rattle.doors_top.specs.Outcomes.{script_of_input};
-ghost use Rattle.doors_top.specs.Input.{IsWithinLimit};
+ghost use Rattle.whole_text.specs.Input.{IsWithinLimit};
 ghost use Rattle.doors_top.specs.declared.script_in.TheConstants.{SCRIPT_LIMIT};
 ghost use Rattle.doors_top.specs.Top.{IsDecidedText};
 
-use crate::reading::ReadText;
 use dk_base::error::NoMemory;
 use script_lang::bad::{Bad, ParseFault};
 use script_lang::laws;
@@ -14,6 +13,7 @@ use script_lang::parse::parse;
 use script_lang::script::Script;
 use script_line::reason::Reason;
 use std::alloc::Global;
+use whole_text::reading::ReadText;
 
 /// The most bytes of a script. Definitions cite this constant too.
 pub const SCRIPT_LIMIT: usize = 1_048_576;

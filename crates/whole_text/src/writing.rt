@@ -2,7 +2,7 @@
 ghost use Rattle.std.specs.Prelude.{◌≤◌, OnOk, OnErr};
 ghost use Rattle.std.specs.Io.KnownBytes.{Appends};
 ghost use Rattle.dk_base.specs.Words.{Rose};
-ghost use Rattle.doors_top.specs.Output.{AppendsFront};
+ghost use Rattle.whole_text.specs.Output.{AppendsFront};
 
 use dk_base::error::Failed;
 use dk_base::outside::Sink;

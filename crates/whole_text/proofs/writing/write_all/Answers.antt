@@ -1,6 +1,6 @@
 use Rattle.std.proofs.Common.{arith}
-use Rattle.doors_top.proofs.Fronts.{Appends-front}
-use Rattle.doors_top.proofs.writing.write_all.Goals as goal
+use Rattle.whole_text.proofs.Fronts.{Appends-front}
+use Rattle.whole_text.proofs.writing.write_all.Goals as goal
 
 pub loop-at-preserved : goal.loop-at-preserved
 loop-at-preserved g c = (
