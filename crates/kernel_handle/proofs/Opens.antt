@@ -7,10 +7,11 @@ use Rattle.kernel_records.specs.Words.{empty_table, table_in}
 use Rattle.kernel_records.proofs.Lists.{at_number-map, at_number-suc, numbered_front, numbered_within}
 use Rattle.written_kernel.specs.Types.{Pid}
 use Rattle.written_kernel.specs.Opening.{no_process, with_new_process, with_processes}
-use Rattle.written_kernel.specs.Words.{State, opening, table_of, with_child}
+use Rattle.written_kernel.specs.Words.{State, opening, table_of, with_child, with_new_thread}
 use Rattle.written_kernel.proofs.Opening.{length-with_child, opening_events, opening_processes, opening_threads, threads-make_child}
 use Rattle.spec_histories.specs.declared.opening.OpeningProcess.{OpeningProcess}
-use Rattle.spec_histories.specs.Openings.{limit_of, with_children, with_parent}
+use Rattle.spec_histories.specs.declared.opening.OpeningThread.{OpeningThread}
+use Rattle.spec_histories.specs.Openings.{limit_of, with_children, with_parent, with_threads}
 
 -- the tables of an opening, whose rows are as many as its limits say
 
@@ -92,3 +93,15 @@ opens-with_children processes (x ∷ xs) m before h = opens-with_children proces
     one : (parent : Option Pid) → OpensChildren processes (with_parent m (before + 1) parent)
     one None = h
     one (Some parent) = child-made processes m (with_child m (before + 1) parent.0) (before + 1) parent.0 h refl
+
+-- all children of a kernel that has just these processes are made
+pub children-made :
+    (processes : List OpeningProcess) (limits : List ℕ) (k new : State) → k ≡ opening limits → limits ≡ map limit_of processes →
+    new ≡ with_children k 0 processes → OpensChildren processes new
+children-made processes limits k new opens are made =
+    subst (OpensChildren processes) (sym made) (opens-with_children processes processes k 0 (children-begin processes k (opens ∙ ap opening are)))
+
+-- threads are no events
+pub events-with_threads : (m : State) (threads : List OpeningThread) → (with_threads m threads).events ≡ m.events
+events-with_threads m [] = refl
+events-with_threads m (t ∷ threads) = events-with_threads (with_new_thread m t.process.0 t.spare) threads
