@@ -1,0 +1,24 @@
+-- The types that the crates below declare, from one place, for the definitions here and above.
+pub use Rattle.dk_base.specs.declared.answer.Answer.{Answer}
+pub use Rattle.dk_base.specs.declared.event.What.{What}
+pub use Rattle.dk_base.specs.declared.number.Fd.{Fd}
+pub use Rattle.dk_base.specs.declared.number.PathId.{PathId}
+pub use Rattle.dk_base.specs.declared.number.Pid.{Pid}
+pub use Rattle.dk_base.specs.declared.number.Tid.{Tid}
+pub use Rattle.dk_base.specs.declared.object.Pass.{Pass}
+pub use Rattle.dk_base.specs.declared.request.AlertMode.{AlertMode}
+pub use Rattle.dk_base.specs.declared.request.Param.{Param}
+pub use Rattle.dk_base.specs.declared.request.Request.{Request}
+pub use Rattle.dk_base.specs.declared.set.Attrs.{Attrs}
+pub use Rattle.dk_base.specs.declared.set.PollSet.{PollSet}
+pub use Rattle.script_line.specs.declared.reason.Reason.{Reason}
+pub use Rattle.history_text.specs.declared.line.Asked.{Asked}
+pub use Rattle.history_text.specs.declared.line.Ending.{Ending}
+pub use Rattle.history_text.specs.declared.line.Line.{Line}
+pub use Rattle.history_text.specs.declared.line.Member.{Member}
+pub use Rattle.history_text.specs.declared.place.Kind.{Kind}
+pub use Rattle.history_text.specs.declared.place.Place.{Place}
+pub use Rattle.history_text.specs.declared.place.Stage.{Stage}
+pub use Rattle.history_text.specs.declared.named.NamedProcedure.{NamedProcedure}
+pub use Rattle.history_text.specs.declared.named.NamedProcess.{NamedProcess}
+pub use Rattle.history_text.specs.declared.named.NamedThread.{NamedThread}
