@@ -1,0 +1,13 @@
+pub mod Begun
+pub mod CutTexts
+pub mod EventLines
+pub mod FirstLine
+pub mod Fitness
+pub mod LegalLines
+pub mod LinesBefore
+pub mod OpeningLists
+pub mod ReadLines
+pub mod Texts
+pub mod ToldLines
+pub mod TurnLines
+pub mod Walks

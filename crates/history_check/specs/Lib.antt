@@ -1,0 +1,9 @@
+pub mod WholeLines
+pub mod VerdictText
+pub mod Openings
+pub mod Places
+pub mod Turns
+pub mod Judging
+pub mod Verdicts
+pub mod Findings
+pub mod LegalTexts
