@@ -1,0 +1,10 @@
+pub mod AsBox
+pub mod Counts
+pub mod Few
+pub mod LooseValues
+pub mod Mentions
+pub mod ReadOnce
+pub mod Reasons
+pub mod Tellings
+pub mod Unopenings
+pub mod Waiting

@@ -1,0 +1,5 @@
+use Rattle.kernel_c.specs.Handles.{held}
+use Rattle.kernel_c.proofs.kernel_c_close.Given as goal
+
+abbrev pub ghost-into_box : goal.ghost-into_box
+ghost-into_box g a = held a.self.value
