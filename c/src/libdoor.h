@@ -1,0 +1,239 @@
+/* libdoor.h: what the parts of libdoor share. libdoor lets a program call doors by a broker, doord(1). */
+#ifndef LIBDOOR_H
+#define LIBDOOR_H
+
+#include "kernel_c.h"
+#include "wire.h"
+
+#include <door.h>
+#include <setjmp.h>
+#include <signal.h>
+#include <stdbool.h>
+#include <stddef.h>
+#include <stdint.h>
+#include <sys/types.h>
+#include <time.h>
+
+/* All is hidden but what a program calls. */
+#define EXPORT __attribute__((visibility("default")))
+
+enum {
+	LIBDOOR_DATA = 4096,         /* the most bytes of a message */
+	LIBDOOR_PASSED = 16,         /* the most descriptors of a message */
+	LIBDOOR_DESCRIPTORS = 65536, /* a descriptor that stands for one of the kernel is below this */
+	LIBDOOR_NO_BROKER = 125,     /* the status of a program whose broker has gone */
+};
+
+_Static_assert(sizeof(uintptr_t) == 8 && sizeof(long) == 8, "libdoor is for systems of 64 bits");
+_Static_assert((int)LIBDOOR_DATA <= (int)WIRE_REPLY && (int)LIBDOOR_DATA < (int)WIRE_DATA, "a message, and one byte too many, have room");
+_Static_assert((int)LIBDOOR_PASSED <= (int)WIRE_PASSED && (int)LIBDOOR_PASSED < (int)WIRE_ITEMS, "and so have its descriptors");
+
+/* libdoor_real.c: the system's own functions, behind those that libdoor stands before */
+int real_openat(int directory, const char *path, int flags, mode_t mode);
+int real_close(int fd);
+int real_close_range(unsigned first, unsigned last, int flags);
+int real_dup(int fd);
+int real_dup2(int from, int to);
+int real_dup3(int from, int to, int flags);
+int real_fcntl(int fd, int command, void *argument);
+pid_t real_fork(void);
+int real_sigaction(int number, const struct sigaction *action, struct sigaction *old);
+
+enum real_signal { REAL_SIGNAL, REAL_BSD_SIGNAL, REAL_SSIGNAL, REAL_SYSV_SIGNAL, REAL_OTHER_SYSV_SIGNAL, REAL_SIGSET, REAL_SIGNALS };
+
+sighandler_t real_signal(enum real_signal which, int number, sighandler_t handler);
+
+/* libdoor_lock.c: the lock, signals that are kept off, sleeping, and lines for the user */
+
+/* Signals by their bits: all, without those that the threads' library keeps for itself, and those that a fault makes. */
+#define SIGNAL_BIT(number) (1ull << ((number) - 1))
+#define SIGNALS_OF_THREADS (SIGNAL_BIT(32) | SIGNAL_BIT(33))
+#define SIGNALS_OF_FAULTS \
+	(SIGNAL_BIT(SIGSEGV) | SIGNAL_BIT(SIGBUS) | SIGNAL_BIT(SIGFPE) | SIGNAL_BIT(SIGILL) | SIGNAL_BIT(SIGTRAP) | SIGNAL_BIT(SIGSYS))
+#define SIGNALS_ALL (~SIGNALS_OF_THREADS)
+
+uint64_t set_mask(uint64_t mask);
+uint64_t take_lock(void);
+void give_lock(uint64_t mask);
+int futex_wait(_Atomic uint32_t *word, uint32_t value, const struct timespec *most);
+void say(const char *line);
+void say_once(_Atomic int *said, const char *line);
+
+/* libdoor_connect.c: the connection to doord */
+struct connection {
+	_Atomic bool is_open;
+	_Atomic uint32_t generation;    /* how many forks lie between this process and the first; threads of another one do not go on */
+	_Atomic int control, bell;      /* descriptors that are kept from the program, or -1 */
+	_Atomic pid_t pid;
+	struct wire_area *area;
+	_Atomic bool *mark;             /* in memory that is empty in a child, however that is made */
+};
+
+extern struct connection connection;
+
+int connect_broker(uint32_t token);
+int open_connection(void);
+void disconnect_child(void);
+int send_message(const struct wire_message *message, const int *file, unsigned files);
+_Noreturn void broker_is_gone(void);
+void look_for_broker(void);
+
+/* Whether the connection is this process's, and not the one of a parent by vfork(2). */
+bool is_connected_here(void);
+int refuse_child(void);
+
+static inline bool is_kept(int fd)
+{
+	return fd >= 0 && (fd == atomic_load_explicit(&connection.control, memory_order_relaxed)
+		|| fd == atomic_load_explicit(&connection.bell, memory_order_relaxed));
+}
+
+/* libdoor_files.c: ordinary files that are passed */
+int send_files(uint32_t slot, uint32_t number, const int *file, unsigned files);
+void receive_files(uint32_t slot, uint32_t number, int *file, unsigned files);
+void forget_files(void);
+
+/*
+ * libdoor_threads.c: threads.
+ *
+ * What a thread is at decides what a handler of signals finds (libdoor_signals.c), and by whom the handler's own requests are made: by the
+ * thread where it is in the program, and else by another slot.
+ */
+enum at {
+	AT_PROGRAM = 0, /* in the program */
+	AT_REQUEST,     /* with its slot: handlers are put off */
+	AT_CALL,        /* in a call's wait, which a handler ends before it runs */
+	AT_WAIT,        /* in another wait, which goes on behind a handler */
+};
+
+struct ask;
+struct service;
+
+struct thread {
+	volatile int at;
+	struct wire_slot *slot;    /* NULL where it has none */
+	uint32_t index, generation; /* of the slot */
+	struct ask *ask;           /* the request in whose wait it is */
+	volatile int put_off;      /* a signal whose handler was put off, or 0 */
+	siginfo_t signal;
+	uint64_t mask_put_off;
+	uintptr_t handler;         /* the frame from which the outermost handler runs, or 0 */
+	struct service *service;   /* where its invocations begin, at this place; NULL where it has none */
+	jmp_buf place;
+	bool is_of_library;        /* it waits for calls with all signals kept off, and has this mask in a procedure */
+	bool is_unmasked;          /* it has it now */
+	uint64_t mask;
+};
+
+extern __thread struct thread thread __attribute__((tls_model("initial-exec")));
+
+static inline void set_at(enum at at)
+{
+	atomic_signal_fence(memory_order_seq_cst);
+	thread.at = at;
+	atomic_signal_fence(memory_order_seq_cst);
+}
+
+int make_thread_key(void);
+int take_slot(void);
+struct wire_slot *borrow_slot(uint32_t *index);
+void give_slot_back(uint32_t index);
+void have_slot(uint32_t index);
+void forget_threads(void);
+bool is_in_handler(void);
+bool is_in_program(void);
+
+/* libdoor_ask.c: a request and its answer */
+struct ask {
+	struct wire_slot *slot;
+	struct wire_request *request;
+	const struct wire_reply *reply; /* once it is there */
+	uint32_t index, number, generation;
+	bool is_borrowed;
+	struct sent *sent;     /* of a call or return: what is released with it */
+	struct kept *kept;     /* of a call: where its answer is kept while a handler runs */
+	volatile bool is_kept;
+	uint32_t a, b;         /* of a simple request's answer */
+	uint64_t c, d, e;
+};
+
+struct kept {
+	struct wire_reply reply;
+	int file[WIRE_PASSED];
+};
+
+int begin_ask(struct ask *ask, uint32_t op);
+void give_up_ask(struct ask *ask);
+int wait_answer(struct ask *ask, enum at at);
+int wait_on(struct ask *ask, enum at at);
+void resume_ask(struct ask *ask);
+void end_ask(struct ask *ask);
+int ask_simply(struct ask *ask);
+int ask_about(uint32_t op, uint32_t a);
+void end_call_for_handler(struct ask *ask);
+
+/* libdoor_message.c: what goes with calls and returns */
+struct sent {
+	unsigned count;
+	int fd[LIBDOOR_PASSED + 1];
+	bool is_released[LIBDOOR_PASSED + 1];
+};
+
+struct came {
+	unsigned count;
+	struct wire_passed passed[WIRE_PASSED];
+	int file[WIRE_PASSED];
+};
+
+int put_message(struct ask *ask, struct sent *sent, const char *data, size_t size, const door_desc_t *desc, uint_t count);
+void release_sent(struct sent *sent);
+void take_came(struct ask *ask, struct came *came);
+int place_came(const struct came *came, door_desc_t *desc);
+void drop_came(const struct came *came, const door_desc_t *desc, unsigned placed);
+
+/* libdoor_descriptors.c: descriptors of the program that stand for those of the kernel */
+uint32_t kernel_descriptor(int fd);
+bool may_be_stand_in(int fd);
+int new_stand_in(uint32_t row);
+int new_stand_in_at(uint32_t row, int fd);
+int new_stand_in_above(uint32_t row, int least);
+uint32_t take_stand_in(int fd);
+bool forget_stand_in(int fd);
+void renew_stand_ins(bool have_rows);
+int next_stand_in(int from);
+
+/* libdoor_paths.c */
+EXPORT int libdoor_await(const char *path, long most);
+
+/* libdoor_serve.c: invocations */
+int serve_on(void);
+
+/* libdoor_servers.c: server threads */
+void make_servers(void);
+void owe_servers(uint32_t count);
+void pool_is_empty(uint32_t number);
+void forget_servers(void);
+bool has_own_servers(void);
+void make_server_for(door_info_t *info);
+void hand_wait_on(uint32_t index);
+
+/* libdoor_doors.c: the doors of this process, by their numbers */
+struct own_door {
+	_Atomic bool is_there;
+	door_server_procedure_t *procedure;
+	void *cookie;
+	_Atomic bool has_info;
+	door_info_t info;
+};
+
+struct own_door *own_door(uint32_t number);
+void forget_doors(void);
+
+/* libdoor_symbols.c */
+size_t name_procedure(door_server_procedure_t *procedure, char *name, size_t room);
+
+/* libdoor_signals.c */
+void wrap_handlers(void);
+void run_put_off(void);
+
+#endif

@@ -1,0 +1,285 @@
+/*
+ * libdoor_ask.c: a request and its answer. On the way of a call without descriptors no lock and no memory is taken, and there are two system
+ * calls here: one that rings, and one that sleeps.
+ */
+#include "libdoor.h"
+
+#include <errno.h>
+#include <string.h>
+#include <sys/syscall.h>
+#include <unistd.h>
+
+/* The thread is in the program again; a handler that was put off runs now. */
+static void leave_request(void)
+{
+	set_at(AT_PROGRAM);
+	if (thread.put_off)
+		run_put_off();
+}
+
+static int enter_request(struct ask *ask)
+{
+	if (thread.at != AT_PROGRAM && !is_in_program()) {
+		/* a handler, in a thread that is at a request */
+		ask->slot = borrow_slot(&ask->index);
+		ask->is_borrowed = true;
+		return ask->slot ? 0 : -1;
+	}
+	set_at(AT_REQUEST);
+	if (!thread.slot && take_slot() < 0) {
+		int error = errno;
+		leave_request();
+		errno = error;
+		return -1;
+	}
+	ask->slot = thread.slot;
+	ask->index = thread.index;
+	ask->is_borrowed = false;
+	return 0;
+}
+
+static void put_request(struct ask *ask, uint32_t op)
+{
+	struct wire_request *request = ask->request;
+
+	/* 0 is no number, since it stands in a page that is new */
+	if (++request->number == 0)
+		request->number = 1;
+	request->op = op;
+	request->flags = ask->is_borrowed ? WIRE_KEEPER : 0;
+	request->a = request->b = 0;
+	request->data_size = request->items = request->files = 0;
+	request->c = request->d = 0;
+	ask->number = request->number;
+}
+
+static void prepare(struct ask *ask)
+{
+	ask->generation = atomic_load_explicit(&connection.generation, memory_order_relaxed);
+	ask->request = &ask->slot->request;
+	ask->reply = &ask->slot->reply;
+	ask->sent = NULL;
+	ask->kept = NULL;
+	ask->is_kept = false;
+}
+
+/* Begins a request, whose operands the caller then puts in. */
+int begin_ask(struct ask *ask, uint32_t op)
+{
+	if (!atomic_load_explicit(&connection.is_open, memory_order_acquire) && open_connection() < 0)
+		return -1;
+	if (!atomic_load_explicit(connection.mark, memory_order_relaxed))
+		return refuse_child();
+	if (enter_request(ask) < 0)
+		return -1;
+	prepare(ask);
+	put_request(ask, op);
+	return 0;
+}
+
+/* The request of a thread that has ended, by whose slot this thread asks now. It is still waited for. */
+void resume_ask(struct ask *ask)
+{
+	ask->slot = thread.slot;
+	ask->index = thread.index;
+	ask->is_borrowed = false;
+	prepare(ask);
+	ask->number = ask->request->number;
+}
+
+/* Nothing is asked after all. */
+void give_up_ask(struct ask *ask)
+{
+	int error = errno;
+
+	if (ask->is_borrowed)
+		give_slot_back(ask->index);
+	else
+		leave_request();
+	errno = error;
+}
+
+static void ring(uint32_t index)
+{
+	uint64_t one = 1;
+
+	atomic_fetch_or_explicit(&connection.area->asked[index / 64], 1ull << index % 64, memory_order_release);
+	while (syscall(SYS_write, atomic_load_explicit(&connection.bell, memory_order_relaxed), &one, sizeof one) < 0 && errno != EAGAIN)
+		if (errno != EINTR)
+			broker_is_gone();
+}
+
+static void post(struct ask *ask)
+{
+	atomic_store_explicit(&ask->slot->turn, WIRE_ASKED, memory_order_release);
+	ring(ask->index);
+}
+
+static bool is_of_this_process(const struct ask *ask)
+{
+	return ask->generation == atomic_load_explicit(&connection.generation, memory_order_relaxed);
+}
+
+/* Sleeps a while at most. */
+static void sleep_on(struct wire_slot *slot)
+{
+	static const struct timespec second = { .tv_sec = 1 };
+	uint32_t seen = WIRE_ASKED;
+
+	atomic_compare_exchange_strong(&slot->turn, &seen, WIRE_ASLEEP);
+	if (seen != WIRE_TOLD && futex_wait(&slot->turn, WIRE_ASLEEP, &second) == ETIMEDOUT)
+		look_for_broker();
+}
+
+/* Sleeps until the answer is there, or until a handler has taken it, or has made this process another one by fork(2). */
+static void sleep_until_told(struct ask *ask)
+{
+	while (!ask->is_kept && is_of_this_process(ask) && atomic_load_explicit(&ask->slot->turn, memory_order_acquire) != WIRE_TOLD)
+		sleep_on(ask->slot);
+}
+
+static void see_that_it_fits(const struct ask *ask)
+{
+	const struct wire_reply *reply = ask->reply;
+
+	if (reply->number == ask->number && reply->data_size <= WIRE_REPLY && reply->passed <= WIRE_PASSED && reply->files <= WIRE_PASSED)
+		return;
+	say("libdoor: doord's answer is not one to the question");
+	_exit(LIBDOOR_NO_BROKER);
+}
+
+/* Whether this is not the end yet: the message has gone, what it released is closed, and then its end is asked for. */
+static bool goes_on(struct ask *ask)
+{
+	see_that_it_fits(ask);
+	if (!(ask->reply->flags & WIRE_TAKEN))
+		return false;
+	if (ask->sent)
+		release_sent(ask->sent);
+	if (ask->reply->kind != KERNEL_ANSWER_WAIT && ask->reply->kind != KERNEL_ANSWER_WAIT_CALL)
+		return false;
+	owe_servers(ask->reply->spawn);
+	put_request(ask, WIRE_WAIT);
+	return true;
+}
+
+/*
+ * Waits as `at` says for what was asked. -1 and EINTR where a handler has forked, and this is its child: then the request is over. Else the
+ * answer is ask->reply until end_ask.
+ */
+int wait_on(struct ask *ask, enum at at)
+{
+	for (;;) {
+		if (!ask->is_borrowed && at != AT_REQUEST) {
+			thread.ask = ask;
+			set_at(at);
+			if (thread.put_off)
+				run_put_off();
+		}
+		sleep_until_told(ask);
+		if (!ask->is_borrowed)
+			set_at(AT_REQUEST);
+		if (!is_of_this_process(ask)) {
+			if (!ask->is_borrowed)
+				leave_request();
+			errno = EINTR;
+			return -1;
+		}
+		if (ask->is_kept) {
+			ask->reply = &ask->kept->reply;
+			return 0;
+		}
+		if (!goes_on(ask))
+			return 0;
+		post(ask);
+	}
+}
+
+int wait_answer(struct ask *ask, enum at at)
+{
+	post(ask);
+	return wait_on(ask, at);
+}
+
+/*
+ * A handler is to run in the thread that waits for this call, and all signals are kept off: the wait is ended in the kernel, and its answer
+ * kept, so that the handler may use the thread's slot.
+ */
+void end_call_for_handler(struct ask *ask)
+{
+	bool again;
+
+	do {
+		if (atomic_load(&ask->slot->turn) != WIRE_TOLD) {
+			atomic_store(&ask->slot->interrupted, ask->number);
+			ring(ask->index);
+		}
+		sleep_until_told(ask);
+		again = goes_on(ask);
+		if (again)
+			post(ask);
+	} while (again);
+	const struct wire_reply *reply = &ask->slot->reply;
+	memcpy(&ask->kept->reply, reply, offsetof(struct wire_reply, data) + reply->data_size);
+	if (reply->files > 0)
+		receive_files(ask->index, ask->number, ask->kept->file, reply->files);
+	atomic_store_explicit(&ask->slot->turn, WIRE_MINE, memory_order_relaxed);
+	ask->is_kept = true;
+}
+
+/* A handler's call took a thread of the kernel, which is not needed any more. */
+static void leave_borrowed(struct ask *ask)
+{
+	uint32_t op = ask->request->op;
+
+	if (op == KERNEL_OP_CALL || op == KERNEL_OP_AWAIT || op == WIRE_WAIT) {
+		put_request(ask, WIRE_LEAVE);
+		post(ask);
+		sleep_until_told(ask);
+		atomic_store_explicit(&ask->slot->turn, WIRE_MINE, memory_order_relaxed);
+	}
+	give_slot_back(ask->index);
+}
+
+/* What was needed of the answer is taken. */
+void end_ask(struct ask *ask)
+{
+	uint32_t spawn = ask->reply->spawn;
+
+	if (!ask->is_kept)
+		atomic_store_explicit(&ask->slot->turn, WIRE_MINE, memory_order_relaxed);
+	if (ask->is_borrowed)
+		leave_borrowed(ask);
+	else
+		leave_request();
+	if (spawn > 0)
+		owe_servers(spawn);
+	make_servers();
+}
+
+/* A request that is answered at once by a few numbers, which then stand in it: 0, or -1 and errno. */
+int ask_simply(struct ask *ask)
+{
+	if (wait_answer(ask, AT_REQUEST) < 0)
+		return -1;
+	int error = (int)ask->reply->error;
+	ask->a = ask->reply->a;
+	ask->b = ask->reply->b;
+	ask->c = ask->reply->c;
+	ask->d = ask->reply->d;
+	ask->e = ask->reply->e;
+	end_ask(ask);
+	if (error != 0)
+		errno = error;
+	return error == 0 ? 0 : -1;
+}
+
+int ask_about(uint32_t op, uint32_t a)
+{
+	struct ask ask;
+
+	if (begin_ask(&ask, op) < 0)
+		return -1;
+	ask.request->a = a;
+	return ask_simply(&ask);
+}

@@ -1,0 +1,135 @@
+/* libdoor_real.c: the system's own functions, behind those that libdoor stands before. They are looked up when they are first wanted. */
+#include "libdoor.h"
+
+#include <dlfcn.h>
+#include <errno.h>
+#include <string.h>
+
+enum real {
+	REAL_OPENAT = REAL_SIGNALS, /* those before it are enum real_signal */
+	REAL_CLOSE,
+	REAL_CLOSE_RANGE,
+	REAL_DUP,
+	REAL_DUP2,
+	REAL_DUP3,
+	REAL_FCNTL,
+	REAL_FORK,
+	REAL_SIGACTION,
+	REALS,
+};
+
+static const char *const name_of[REALS] = {
+	[REAL_SIGNAL] = "signal",
+	[REAL_BSD_SIGNAL] = "bsd_signal",
+	[REAL_SSIGNAL] = "ssignal",
+	[REAL_SYSV_SIGNAL] = "sysv_signal",
+	[REAL_OTHER_SYSV_SIGNAL] = "__sysv_signal",
+	[REAL_SIGSET] = "sigset",
+	[REAL_OPENAT] = "openat",
+	[REAL_CLOSE] = "close",
+	[REAL_CLOSE_RANGE] = "close_range",
+	[REAL_DUP] = "dup",
+	[REAL_DUP2] = "dup2",
+	[REAL_DUP3] = "dup3",
+	[REAL_FCNTL] = "fcntl",
+	[REAL_FORK] = "fork",
+	[REAL_SIGACTION] = "sigaction",
+};
+
+static void *_Atomic found[REALS];
+
+/* Puts the function into `function`, which is a pointer to a function; false where the system has none. */
+static bool find(unsigned which, void *function)
+{
+	void *address = atomic_load_explicit(&found[which], memory_order_relaxed);
+
+	if (!address) {
+		address = dlsym(RTLD_NEXT, name_of[which]);
+		atomic_store_explicit(&found[which], address, memory_order_relaxed);
+	}
+	memcpy(function, &address, sizeof address);
+	if (!address)
+		errno = ENOSYS;
+	return address;
+}
+
+/* dlsym(3) takes a lock, so a handler should not be the first to want a function. */
+__attribute__((constructor)) static void find_all(void)
+{
+	int error = errno;
+	void *function;
+
+	for (unsigned which = 0; which < REALS; which++)
+		(void)find(which, &function);
+	errno = error;
+}
+
+int real_openat(int directory, const char *path, int flags, mode_t mode)
+{
+	int (*function)(int, const char *, int, ...);
+
+	return find(REAL_OPENAT, &function) ? function(directory, path, flags, mode) : -1;
+}
+
+int real_close(int fd)
+{
+	int (*function)(int);
+
+	return find(REAL_CLOSE, &function) ? function(fd) : -1;
+}
+
+int real_close_range(unsigned first, unsigned last, int flags)
+{
+	int (*function)(unsigned, unsigned, int);
+
+	return find(REAL_CLOSE_RANGE, &function) ? function(first, last, flags) : -1;
+}
+
+int real_dup(int fd)
+{
+	int (*function)(int);
+
+	return find(REAL_DUP, &function) ? function(fd) : -1;
+}
+
+int real_dup2(int from, int to)
+{
+	int (*function)(int, int);
+
+	return find(REAL_DUP2, &function) ? function(from, to) : -1;
+}
+
+int real_dup3(int from, int to, int flags)
+{
+	int (*function)(int, int, int);
+
+	return find(REAL_DUP3, &function) ? function(from, to, flags) : -1;
+}
+
+int real_fcntl(int fd, int command, void *argument)
+{
+	int (*function)(int, int, ...);
+
+	return find(REAL_FCNTL, &function) ? function(fd, command, argument) : -1;
+}
+
+pid_t real_fork(void)
+{
+	pid_t (*function)(void);
+
+	return find(REAL_FORK, &function) ? function() : -1;
+}
+
+int real_sigaction(int number, const struct sigaction *action, struct sigaction *old)
+{
+	int (*function)(int, const struct sigaction *, struct sigaction *);
+
+	return find(REAL_SIGACTION, &function) ? function(number, action, old) : -1;
+}
+
+sighandler_t real_signal(enum real_signal which, int number, sighandler_t handler)
+{
+	sighandler_t (*function)(int, sighandler_t);
+
+	return find(which, &function) ? function(number, handler) : SIG_ERR;
+}

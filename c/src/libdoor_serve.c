@@ -1,0 +1,163 @@
+/* libdoor_serve.c: door_return(3C), and the invocations of server procedures. */
+#include "libdoor.h"
+
+#include <errno.h>
+#include <pthread.h>
+#include <setjmp.h>
+#include <stdalign.h>
+#include <string.h>
+
+/* What an invocation has. It lies in the frame of the thread's first door_return, to which each further one goes back. */
+struct service {
+	struct ask ask;
+	struct came came;
+	door_desc_t desc[WIRE_PASSED];
+	alignas(16) char data[WIRE_REPLY];
+};
+
+struct results {
+	const char *data;
+	size_t size;
+	const door_desc_t *desc;
+	uint_t count;
+};
+
+/* A thread that libdoor made waits with all signals kept off, so that they go to the program's own. */
+static void keep_signals_off(void)
+{
+	if (!thread.is_unmasked)
+		return;
+	thread.is_unmasked = false;
+	thread.mask = set_mask(SIGNALS_ALL);
+}
+
+static void let_signals_in(void)
+{
+	if (!thread.is_of_library || (~thread.mask & SIGNALS_ALL) == 0)
+		return;
+	thread.is_unmasked = true;
+	(void)set_mask(thread.mask);
+}
+
+/* The next invocation is there, or there is none: -1 and errno. */
+static int see_answer(struct ask *ask)
+{
+	int error = (int)ask->reply->error;
+
+	if (error == 0)
+		return 0;
+	end_ask(ask);
+	let_signals_in();
+	errno = error;
+	return -1;
+}
+
+/* Hands results over, and waits for the next invocation. */
+static int hand_over(struct service *service, const struct results *results)
+{
+	struct ask *ask = &service->ask;
+	struct sent sent;
+
+	keep_signals_off();
+	if (begin_ask(ask, KERNEL_OP_RETURN) < 0) {
+		let_signals_in();
+		return -1;
+	}
+	if (put_message(ask, &sent, results->data, results->size, results->desc, results->count) < 0) {
+		give_up_ask(ask);
+		let_signals_in();
+		return -1;
+	}
+	return wait_answer(ask, AT_WAIT) < 0 ? -1 : see_answer(ask);
+}
+
+/* Goes on with the wait of a thread that has ended, by whose slot this thread asks now. */
+static int take_wait_over(struct service *service)
+{
+	resume_ask(&service->ask);
+	return wait_on(&service->ask, AT_WAIT) < 0 ? -1 : see_answer(&service->ask);
+}
+
+/* Descriptors for what came; the client waits for its results, so the procedure runs also where one has no room, without it. */
+static unsigned place_arguments(struct service *service)
+{
+	static _Atomic int said;
+	unsigned count = service->came.count;
+
+	if (count == 0 || place_came(&service->came, service->desc) == 0)
+		return count;
+	say_once(&said, "libdoor: EMFILE: no descriptors are free for those that came with a call");
+	return 0;
+}
+
+static void invoke(struct service *service)
+{
+	const struct wire_reply *reply = service->ask.reply;
+	uint32_t kind = reply->kind, number = reply->b, flags = reply->flags;
+	size_t size = reply->data_size;
+
+	memcpy(service->data, reply->data, size);
+	take_came(&service->ask, &service->came);
+	end_ask(&service->ask);
+	const struct own_door *door = own_door(number);
+	bool is_invocation = kind == KERNEL_ANSWER_ENTERED || kind == KERNEL_ANSWER_NOTICE;
+	if (!is_invocation || !door || !atomic_load_explicit(&door->is_there, memory_order_acquire))
+		return;
+	if (flags & WIRE_POOL)
+		pool_is_empty(number);
+	unsigned count = place_arguments(service);
+	let_signals_in();
+	if (kind == KERNEL_ANSWER_NOTICE)
+		door->procedure(door->cookie, DOOR_UNREF_DATA, 0, NULL, 0);
+	else
+		door->procedure(door->cookie, size > 0 ? service->data : NULL, size, count > 0 ? service->desc : NULL, count);
+}
+
+/*
+ * The place to which the thread comes back for each invocation. Without results it takes a wait over. It comes back with -1 where there is
+ * no first invocation; a procedure that comes to its end without door_return(3C) ends its thread, and its client is told EINTR.
+ */
+static int serve_here(struct service *service, const struct results *results)
+{
+	thread.service = service;
+	if (_setjmp(thread.place) == 0) {
+		if ((results ? hand_over(service, results) : take_wait_over(service)) < 0) {
+			thread.service = NULL;
+			return -1;
+		}
+	}
+	invoke(thread.service);
+	pthread_exit(NULL);
+}
+
+int serve_on(void)
+{
+	struct service service;
+
+	return serve_here(&service, NULL);
+}
+
+/* Whether the thread's place is there: it is not where the program has jumped out of the frame that had it. */
+static bool has_place(void)
+{
+	return thread.service && (uintptr_t)__builtin_frame_address(0) < (uintptr_t)thread.service;
+}
+
+/* door_return(3C) comes back only where it failed. */
+EXPORT int door_return(char *data, size_t size, door_desc_t *desc, uint_t count)
+{
+	const struct results results = { data, size, desc, count };
+
+	if (!is_in_program()) {
+		/* a handler of signals, in a thread that waits already */
+		errno = EINVAL;
+		return -1;
+	}
+	if (!has_place()) {
+		struct service service;
+		return serve_here(&service, &results);
+	}
+	if (hand_over(thread.service, &results) < 0)
+		return -1;
+	_longjmp(thread.place, 1);
+}
