@@ -1,0 +1,327 @@
+/* doord.h: what the parts of doord share. One thread runs all of it. */
+#ifndef DOORD_H
+#define DOORD_H
+
+#include "kernel_c.h"
+#include "wire.h"
+
+#include <stdbool.h>
+#include <stddef.h>
+#include <stdint.h>
+#include <stdio.h>
+#include <sys/types.h>
+
+enum {
+	DOORD_PLACES = 64,  /* processes of the kernel */
+	DOORD_MEMBERS = 64, /* threads of the kernel */
+	DOORD_ROWS = 256,   /* descriptors of a process */
+	DOORD_SHAPES = 64,
+	DOORD_NAME = 17,      /* a name of the kernel and its end */
+	DOORD_PROCEDURES = 64, /* procedures of a process */
+	DOORD_QUEUE = 32,     /* calls that may wait in a pool */
+	DOORD_STRANGERS = 128, /* connections that have not said who they are */
+	DOORD_MESSAGES = 512, /* messages of one program that are read before others have their turn */
+};
+
+/* statuses of doord itself, as env(1) and timeout(1) have them */
+enum {
+	DOORD_EVENTS = 122,  /* the history has as many events as it may have */
+	DOORD_FAILED = 125,
+	DOORD_NO_EXECUTE = 126,
+	DOORD_NO_COMMAND = 127,
+};
+
+/* What a descriptor of the kernel leads to. It is there as long as rows, paths, messages, bindings or calls hold it. */
+struct object {
+	unsigned holders;
+	bool is_door;
+	bool is_revoked;     /* of a door */
+	int file;            /* of an ordinary file, which a port of the kernel stands for: the file; else -1 */
+	int place;           /* of a door: its process, and what its program said of it */
+	uint32_t attributes;
+	uint64_t number;     /* counted over all doors */
+	uint64_t procedure, cookie;
+	unsigned waiting;    /* of a private door: calls that no thread has accepted */
+};
+
+/* Descriptors on their way. */
+struct passage {
+	unsigned count;
+	struct object *object[WIRE_ITEMS];
+};
+
+enum member_kind { MEMBER_KEEPER, MEMBER_ORDINARY, MEMBER_SPARE };
+
+/* unborn: its process, or a spare, has not begun; free: in store; lent: to the thread of a slot; spent: it is over */
+enum member_life { MEMBER_UNBORN, MEMBER_FREE, MEMBER_LENT, MEMBER_SPENT };
+
+/* A thread of the kernel. */
+struct member {
+	enum member_kind kind;
+	enum member_life life;
+	int place;
+	struct slot *slot;     /* whose thread it is lent to */
+	struct object *bound;  /* the door that it is bound to */
+	bool in_service;       /* it runs an invocation */
+	bool waits_to_serve;
+	bool awaits;           /* it waits for a path */
+	bool is_ready;         /* it stands among those that may go on */
+	uint32_t serves;       /* the call of its invocation; 0 of a notice, or where there is none */
+	uint32_t calls;        /* the call that it waits for, or 0 */
+	bool is_accepted;      /* that call was accepted, or has left the pool */
+	struct object *called; /* the door of that call */
+	struct passage sent, results;
+};
+
+/* A process of the kernel: a place for programs, one after the other. */
+struct place {
+	char program[WIRE_NAME]; /* the shape's: the one program that may have it, or * */
+	char occupant[WIRE_NAME]; /* the program that had it last */
+	char name[DOORD_NAME];   /* empty until the first program has it */
+	int parent;              /* whose fork begins it; 0 of those that init begins */
+	bool is_born, is_spent;
+	struct client *client;   /* who has it */
+	int first, keeper, last; /* its members */
+	unsigned doors;          /* that its client made */
+	unsigned waiting;        /* calls of its common pool that no thread has accepted */
+	unsigned procedures;
+	bool is_full_told;       /* that it has too little of something was said */
+	bool is_unserved_told;   /* that calls wait and nobody can serve them was said */
+	struct object *row[DOORD_ROWS];
+	unsigned rows;
+};
+
+/* Files that came by a control socket, for a request that is still to come. */
+struct parcel {
+	uint32_t number;
+	unsigned count;
+	int file[WIRE_ITEMS];
+};
+
+/* A thread's slot, on this side. */
+struct slot {
+	struct client *client;
+	unsigned index;
+	int member;          /* the kernel's thread that is lent to it, or 0 */
+	bool is_busy;        /* a request was taken and not answered */
+	bool is_held;        /* its call is held back until there is room in the pool */
+	bool is_replied;     /* a reply stands in its page, to be handed over */
+	unsigned files;      /* that go with the reply */
+	int file[WIRE_PASSED];
+	struct wire_request request;
+};
+
+/* what the loop watches */
+enum watch_kind { WATCH_LISTEN, WATCH_SIGNALS, WATCH_CONTROL, WATCH_BELL, WATCH_DEATH, WATCH_STAND_IN };
+
+struct watch {
+	enum watch_kind kind;
+	struct client *client;
+	unsigned row;
+};
+
+struct stand_in {
+	int end;          /* the reading end of a pipe whose writing end the program has, or -1 */
+	bool is_expected; /* the program was told of the descriptor, and is to send it */
+	struct watch watch;
+};
+
+/* A program that is connected, or one that a fork announced. */
+struct client {
+	struct client *next;
+	pid_t pid;
+	int control, bell, death; /* -1 where there is none */
+	uid_t euid, ruid;
+	gid_t egid, rgid;
+	int place; /* 0 as long as it has none */
+	bool is_gone;
+	unsigned spawn; /* server threads that it is still to make */
+	unsigned expected; /* stand-ins that it is still to send */
+	struct wire_area *area;
+	struct watch on_control, on_bell, on_death;
+	/* of one that has a place */
+	struct stand_in *stand_in; /* DOORD_ROWS */
+	struct slot *slot;         /* WIRE_SLOTS */
+	struct parcel **parcel;    /* WIRE_SLOTS: the files of the next request of each */
+};
+
+/* A path to which doors are attached. */
+struct path {
+	char *text;
+	struct object *door; /* that is attached, or NULL */
+	int file;            /* the attached file, opened by its path alone, or -1: */
+	uint64_t device, inode;
+};
+
+struct shape {
+	char program[WIRE_NAME];
+	unsigned threads, spares, children;
+};
+
+struct options {
+	struct shape shape[DOORD_SHAPES];
+	unsigned shapes;
+	unsigned limit;
+	const char *history, *socket;
+	bool eagain, no_preload, stay;
+	char **command;
+};
+
+/* The one kernel, and all that doord knows of it. */
+struct doord {
+	struct options options;
+	int places, members; /* as many as there are; numbered from 1, init is place 1 and member 1 */
+	struct place place[DOORD_PLACES + 1];
+	struct member member[DOORD_MEMBERS + 1];
+	struct path path[WIRE_PATHS];
+	unsigned paths, attached;
+	struct client *clients, *gone;
+	unsigned strangers;
+	int reserve; /* a descriptor that is given up where none is free */
+	struct slot **held; /* calls that are held back, in their order */
+	size_t held_count, held_room;
+	struct slot **replied; /* slots whose replies are to be handed over */
+	size_t replied_count, replied_room;
+	uint64_t doors;
+	int epoll, listener, signals;
+	pid_t command;
+	bool command_ended, no_children;
+	int command_status;
+	bool is_full; /* the history has its last event */
+	struct wire_table *table; /* for programs to read; nothing in it is believed here */
+	char folder[64]; /* of the socket and the table, where doord made it; else empty */
+	char socket_path[108], table_path[160];
+	char library[4096]; /* the folder of libdoor.so */
+};
+
+extern struct doord doord;
+
+/* doord_options.c */
+void read_options(int count, char **words, struct options *options);
+void complain(const char *form, ...) __attribute__((format(printf, 1, 2)));
+_Noreturn void fail(const char *form, ...) __attribute__((format(printf, 1, 2)));
+
+/* doord_kernel.c: turns of the kernel, and the history */
+
+/* what is asked; data and items where there are any */
+struct asked {
+	uint32_t op, a, b;
+	uint64_t c, d;
+	const uint8_t *data;
+	size_t data_size;
+	const uint64_t *item;
+	size_t items;
+};
+
+/* the answer of the last turn */
+struct answer {
+	uint64_t kind, number[5];
+	size_t data_size, items;
+	const uint8_t *data;
+	const uint64_t *item;
+};
+
+extern struct answer answer;
+
+void open_kernel(void);
+/* whether the turn was taken; where it was not nothing was done, and `answer` is a failure */
+bool enter_kernel(int member, const struct asked *asked);
+bool end_wait(int member);
+bool can_go_on(int member);
+/* whether the line was taken */
+bool declare(const char *form, ...) __attribute__((format(printf, 1, 2)));
+void remark(const char *form, ...) __attribute__((format(printf, 1, 2)));
+void write_history(void);
+void close_history(void);
+int host_error(uint64_t kernel_error);
+
+/* doord_places.c: processes and threads of the kernel, lent to those of programs */
+void lay_out_places(void);
+int find_place(const char *program);
+bool begin_place(int place, const char *program);
+void name_place(int place, const char *program);
+void adopt_child(int place, int parent);
+int find_child(int parent);
+int lend_member(struct slot *slot, bool to_serve);
+void store_member(int member);
+void member_woken(int member);
+void place_full(int place, const char *what);
+void see_that_served(int place);
+
+/* doord_objects.c: what descriptors lead to */
+struct object *new_object(void);
+void hold(struct object *object);
+void drop(struct object *object);
+void set_row(int place, uint64_t fd, struct object *object);
+void clear_row(int place, uint64_t fd);
+struct object *row_of(int place, uint64_t fd);
+void drop_passage(struct passage *passage);
+
+/* doord_requests.c: what programs ask */
+void take_requests(struct client *client);
+void answer_request(struct slot *slot);
+void reply_error(struct slot *slot, int error);
+void tell_descriptor(struct slot *slot, struct wire_reply *reply);
+void hand_over(void);
+struct wire_reply *begin_reply(struct slot *slot, uint64_t kind);
+void unbind_member(int member);
+
+/* doord_calls.c: calls and returns, and the ends of waits */
+void ask_call(struct slot *slot, int member);
+void ask_return(struct slot *slot, int member);
+void ask_wait(struct slot *slot, int member);
+void interrupt_slot(struct slot *slot);
+void forget_call(struct member *member);
+void go_on(int member);
+void set_ready(int member);
+void settle(void);
+void hold_back(struct slot *slot);
+void let_go(struct slot *slot);
+
+/* doord_paths.c */
+void open_table(void);
+void ask_attach(struct slot *slot, int member);
+void ask_detach(struct slot *slot, int member);
+void ask_open(struct slot *slot, int member);
+void ask_await(struct slot *slot, int member);
+void tell_validity(void);
+
+/* doord_forks.c */
+void ask_fork(struct slot *slot, int member);
+void fork_failed(struct slot *slot);
+void forked(uint32_t token, pid_t pid);
+
+/* doord_clients.c: programs that come and go */
+void take_connection(void);
+void take_messages(struct client *client);
+void end_client(struct client *client);
+void close_stand_in(struct client *client, unsigned row);
+void expect_stand_in(struct client *client, uint64_t row);
+void stand_in_gone(struct client *client, unsigned row);
+struct client *new_client(pid_t pid);
+void free_gone(void);
+void send_files(struct slot *slot);
+bool take_parcel(struct slot *slot, int *file, unsigned count);
+
+
+/* doord_ends.c */
+void end_place(int place);
+void close_row(int member, uint64_t fd);
+
+/* doord_command.c */
+void take_over_signals(void);
+void start_command(void);
+void take_signals(void);
+
+/* doord_quiet.c */
+void note_activity(void);
+int time_to_look(void);
+void look_around(void);
+void tell_all_below(int signal_number);
+
+/* doord.c */
+void remove_files(void);
+bool watch(int fd, struct watch *watch, uint32_t events);
+void unwatch(int fd);
+
+#endif
