@@ -104,7 +104,8 @@ static void fork_once(struct hand *hand)
 
 static void do_something(struct hand *hand)
 {
-	int it = hand->kept[next(hand, KEPT)];
+	unsigned place = next(hand, KEPT);
+	int it = hand->kept[place];
 	door_info_t info;
 	static const uint_t attributes[] = { 0, 0, DOOR_UNREF, DOOR_UNREF_MULTI, DOOR_REFUSE_DESC, DOOR_NO_CANCEL };
 
@@ -121,8 +122,9 @@ static void do_something(struct hand *hand)
 		fdetach(path(hand));
 		break;
 	case 3:
-		if (next(hand, 10) == 0)
-			door_revoke(it);
+		/* its descriptor is closed with it */
+		if (next(hand, 10) == 0 && door_revoke(it) == 0)
+			hand->kept[place] = -1;
 		break;
 	case 4:
 		door_info(it, &info);
