@@ -1301,8 +1301,8 @@ case_attack_greedy() {
 }
 
 case_storm() {
-    run 'for seed in 1 2 3; do storm $seed 2 & storms="$storms $!"; last=$!; done; sleep 1.5; kill -9 $last
-        storm 4 1 & storms="$storms $!"; sleep 0.2; kill -9 $! 2>/dev/null; wait $storms 2>/dev/null; up serve w; doorwait w; ask w "echo x"' \
+    run 'for seed in 1 2 3; do storm $seed 2 & storms="$storms $!"; last=$!; done; sleep 0.7; kill -9 $last 2>/dev/null
+        storm 4 2 & storms="$storms $!"; sleep 0.2; kill -9 $! 2>/dev/null; wait $storms 2>/dev/null; up serve w; doorwait w; ask w "echo x"' \
         -b 'storm=4,6,0' -b 'storm=4,4,1' -b 'storm=3,4,0' -b '*=2,2,0'
     gives 'echo x: x'
     may_say '-b storm='
