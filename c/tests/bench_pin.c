@@ -1,5 +1,5 @@
 /* bench_pin PROCESSOR PROGRAM WORD ..: becomes PROGRAM, which runs, with all that it starts, on this processor alone. */
-#define _GNU_SOURCE
+#define _GNU_SOURCE 1
 #include <sched.h>
 #include <stdio.h>
 #include <stdlib.h>

@@ -2,7 +2,7 @@
  * clones: a client that makes a process past the library, by the bare system call. What the child asks for may fail, but its parent's calls
  * get their own answers, and the parent's descriptors are as they were.
  */
-#define _GNU_SOURCE
+#define _GNU_SOURCE 1
 #include "test.h"
 
 #include <sys/syscall.h>

@@ -3,7 +3,7 @@
  * that are used again by files. `closes unref` closes one of the door at the path a so, and waits until its server was told; `closes all` closes
  * the library's own so.
  */
-#define _GNU_SOURCE
+#define _GNU_SOURCE 1
 #include "test.h"
 
 #include <sys/resource.h>

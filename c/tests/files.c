@@ -2,7 +2,7 @@
  * files THREADS TIMES: as many threads call at once and pass files both ways. Each file that a thread gets is the one that was meant for it:
  * it has the thread's number and the call's.
  */
-#define _GNU_SOURCE
+#define _GNU_SOURCE 1
 #include "test.h"
 
 #include <sys/mman.h>

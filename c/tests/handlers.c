@@ -1,5 +1,5 @@
 /* handlers: what sigaction(2) and signal(2) answer, and what handlers are given, is as without the library. */
-#define _GNU_SOURCE
+#define _GNU_SOURCE 1
 #include "test.h"
 
 static volatile sig_atomic_t came, with_info, right_info, on_own_stack, blocked;

@@ -1,7 +1,7 @@
 /*
  * hostile ATTACK: a program that speaks to doord without the library, and not as it should. Whatever it does, doord goes on serving others.
  */
-#define _GNU_SOURCE
+#define _GNU_SOURCE 1
 #include "../src/kernel_c.h"
 #include "../src/wire.h"
 #include "test.h"

@@ -1,5 +1,5 @@
 /* opens: which calls of open(2) get the door of a file that has one, and which the file. */
-#define _GNU_SOURCE
+#define _GNU_SOURCE 1
 #include "test.h"
 
 static int door;

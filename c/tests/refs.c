@@ -2,7 +2,7 @@
  * refs: which calls make and drop references to a door, as DOOR_IS_UNREF and the notices show. Its process has one server thread, so what
  * is called after a notice was made is served after it.
  */
-#define _GNU_SOURCE
+#define _GNU_SOURCE 1
 #include "test.h"
 
 static int notices[3];

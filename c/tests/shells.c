@@ -1,5 +1,5 @@
 /* shells: a client of w that runs other programs, by each call that there is for it. None of them has its doors. */
-#define _GNU_SOURCE
+#define _GNU_SOURCE 1
 #include "test.h"
 
 #include <spawn.h>

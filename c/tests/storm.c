@@ -4,7 +4,7 @@
  * comes of each call is not looked at, but for an answer that is not that of its request. A wild one also closes numbers that are not its own,
  * under whoever has them.
  */
-#define _GNU_SOURCE
+#define _GNU_SOURCE 1
 #include "test.h"
 
 #include <time.h>
