@@ -94,7 +94,8 @@ void send_files(struct slot *slot)
 {
 	struct wire_message message = { .kind = WIRE_FILES, .a = slot->index, .b = slot->request.number };
 
-	if (!send_message(slot->client->control, &message, slot->file, slot->files))
+	/* a program that has died meanwhile wants none */
+	if (!send_message(slot->client->control, &message, slot->file, slot->files) && errno != EPIPE && errno != ECONNRESET)
 		complain("%s: descriptors of files could not be handed over: %s", doord.place[slot->client->place].name, strerror(errno));
 	close_files(slot->file, slot->files);
 	slot->files = 0;
