@@ -113,11 +113,10 @@ static bool let_one_go(void)
 /* descriptors that are passed */
 
 /* For an ordinary file a port of the sender stands, which is released with the message. */
-static bool make_port(struct slot *slot, int member, int file, uint64_t *item)
+static bool make_port(int member, int file, uint64_t *item)
 {
 	struct asked create = { .op = KERNEL_OP_PORT_CREATE };
 
-	(void)slot;
 	if (!enter_kernel(member, &create) || answer.kind != KERNEL_ANSWER_DESCRIPTOR)
 		return false;
 	struct object *object = new_object();
@@ -148,7 +147,7 @@ static bool make_items(struct slot *slot, int member, uint64_t *item)
 	for (unsigned i = 0; i < asked->items; i++) {
 		if (!(asked->item[i] & WIRE_FILE)) {
 			item[i] = asked->item[i] & (WIRE_RELEASE | UINT32_MAX);
-		} else if (make_port(slot, member, file[taken], &item[i])) {
+		} else if (make_port(member, file[taken], &item[i])) {
 			taken++;
 		} else {
 			int error = host_error(answer.number[0]);

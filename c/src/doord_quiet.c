@@ -9,6 +9,7 @@
 
 #include <ctype.h>
 #include <dirent.h>
+#include <linux/futex.h>
 #include <signal.h>
 #include <stdlib.h>
 #include <string.h>
@@ -102,7 +103,8 @@ static bool sleeps_for_others(const char *call)
 		return false;
 	switch (number) {
 	case SYS_futex:
-		return true; /* of those with a time, libdoor's are such waits, too */
+		/* libdoor waits for doord with a time, and is alone in waiting so for a word that is shared */
+		return word[3] == 0 || word[1] == FUTEX_WAIT;
 	case SYS_pause:
 	case SYS_rt_sigsuspend:
 	case SYS_wait4:

@@ -62,7 +62,7 @@ enum {
  *   detach, open, await   c device, d inode of the file
  *   fork       the child may be made; the reply's a is its token, 0 where it has no rows and is nobody yet
  * An item is a descriptor of the kernel with WIRE_RELEASE where it is released, or WIRE_FILE for an ordinary file, with WIRE_RELEASE where
- * the program releases it. Files come by the control socket: the n-th item with the n-th file of the message.
+ * the program releases it. Files come by the control socket: the n-th of these items with the n-th file of the message.
  *
  * A call or return of which no item has WIRE_RELEASE is answered once, at its end. Where one has, and it is not refused, the first answer is
  * the kernel's wait with WIRE_TAKEN: the program closes what it released, so that nobody waits for its copies, and asks WIRE_WAIT, whose
