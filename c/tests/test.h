@@ -1,5 +1,5 @@
 /*
- * test.h: what the test programs share. A program prints a line for each check that failed, and what else its case in tests/c.sh wants to
+ * test.h: what the test programs share. A program prints a line for each check that failed, and what else its case in tests/c wants to
  * see; a line is one write, so that those of several processes do not mix.
  */
 #ifndef TEST_H

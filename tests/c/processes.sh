@@ -1,0 +1,89 @@
+# Processes: fork, exec, daemons, and what a program closes.
+# Read by tests/c.sh, which has the words that the cases use.
+
+case_forks() {
+    run 'up serve w; doorwait w; forks 2' -b 'forks=2,0,2'
+    gives 'child without: ok' 'parent: ok' 'child with: ok' 'child with: ok' 'parent: ok'
+}
+
+case_forks_without_a_child_in_store() {
+    run 'up serve w; doorwait w; forks 1'
+    gives 'child without: ok' 'parent: ok' 'fork: EAGAIN' 'parent: ok'
+    says_like 'forks.*-b forks='
+    run 'up serve w; doorwait w; forks 2' -b 'forks=2,0,1'
+    gives 'child without: ok' 'parent: ok' 'child with: ok' 'fork: EAGAIN' 'parent: ok'
+    says_like 'forks.*-b forks='
+}
+
+case_forks_of_a_server() {
+    run daemon -b 'daemon=3,4,2'
+    gives_sorted 'other thread: EINTR' 'child: ok' 'child in a procedure: ok' 'parent: EINTR'
+}
+
+# Two threads make the process's first requests while a third forks.
+case_first_requests() {
+    run 'up serve w; doorwait w; firsts 60' -b 'serve=2,6,0'
+    gives 'done'
+    may_say 'doord: firsts.*-b firsts='
+}
+
+case_exec() {
+    run 'up serve w; doorwait w; becomes ask w "echo x" "pid" | sed "s/pid: [0-9]*/pid: N/"'
+    gives 'echo x: x' 'pid: N'
+    run 'up serve w; doorwait w; becomes ask gone "echo x"; ask w "detach gone" >f; becomes sh -c "ls /proc/self/fd | wc -l"; sh -c "ls /proc/self/fd | wc -l"'
+    sed -n 3p "$work/out" >"$work/count"
+    gives 'echo x: EBADF' "$(cat "$work/count")" "$(cat "$work/count")"
+}
+
+case_exec_keeps_a_reference() {
+    run 'up serve -m a - w; doorwait w; becomes -k a sleep 1000 & sleeps=$!; seen "return .x."; ask w "detach a"; seen "= enter n1"; kill $sleeps; ask w "echo x"'
+    gives_sorted 'detach a: ok' 'a unreferenced' 'echo x: x'
+}
+
+case_other_programs() {
+    run 'up serve w; doorwait w; shells'
+    gives 'done'
+}
+
+case_clones() {
+    run 'up serve w; doorwait w; clones'
+    gives 'done'
+    may_say '^libdoor: '
+}
+
+case_helper_thread() {
+    run 'up helper h; pid=$!; doorwait h; ask h echo; ask h echo; ask h "quit 1234"; wait $pid; echo "helper: $?"'
+    gives 'echo: served' 'echo: served' 'quit 1234: EINTR' 'helper: 5'
+}
+
+case_before_and_after_main() {
+    run 'up begins b; pid=$!; doorwait b; ask b x; touch end; wait $pid; echo "begins: $?"; ask b y'
+    gives 'x: ok' detached destructor 'begins: 4' 'y: EBADF'
+}
+
+case_daemon() {
+    run 'detached serve w; doorwait w; ask w "echo x"; kill $(ask w pid | sed "s/.* //")'
+    gives 'echo x: x'
+}
+
+case_main_serves() {
+    run 'up helper h main; pid=$!; doorwait h; ask -n 200 h echo; ask h "quit 1234"; wait $pid; echo "helper: $?"'
+    gives '200 ok' 'quit 1234: EINTR' 'helper: 5'
+}
+
+case_closes() {
+    run 'up serve w; doorwait w; closes'
+    gives 'done'
+}
+
+case_closed_behind_its_back() {
+    run 'up serve -m a - w; doorwait w; closes unref & closes=$!; held opened; ask w "detach a"; touch detached; seen "enter n1"; touch told; wait $closes
+        ask w "echo x"'
+    gives_sorted 'a unreferenced' 'detach a: ok' 'echo x: x'
+}
+
+case_closes_all() {
+    run 'up serve w; doorwait w; closes all; [ $? -ne 0 ] && echo ended; ask w "echo x"'
+    gives ended 'echo x: x'
+    says_like 'libdoor: ' 2
+}
