@@ -58,7 +58,7 @@ made() {
 # Each script with its trace. Of a few scripts of tests/play only the end of the trace is kept.
 traces() {
     for script in examples/*.doors; do echo "$script ${script%.doors}.trace"; done
-    for script in tests/play/*.in; do [ ! -f "${script%.in}.out" ] || echo "$script ${script%.in}.out"; done
+    for script in tests/play/*/*.in; do [ ! -f "${script%.in}.out" ] || echo "$script ${script%.in}.out"; done
 }
 
 converted() {

@@ -13,7 +13,7 @@ import glob, random, re, subprocess, sys
 
 top, count, program = sys.argv[1], int(sys.argv[2]), sys.argv[3]
 choose = random.Random(20261129)
-names = sorted(glob.glob(top + '/tests/play/*.in') + glob.glob(top + '/examples/*.doors'))
+names = sorted(glob.glob(top + '/tests/play/*/*.in') + glob.glob(top + '/examples/*.doors'))
 texts = [text for text in (open(name, 'rb').read() for name in names) if 0 < len(text) < 4000]
 LETTERS = b'abcdefghijklmnopqrstuvwxyz$!"# 0123456789\n\r\t\x00\x7f\x80\xff'
 WORDS = [b'thread', b'process', b'proc', b'end', b'serve', b'call', b'repeat 3', b'if $r ok', b'budget 5', b'schedule', b'return $arg', b'trace', b'spare s9', b'fork c',

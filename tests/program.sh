@@ -2,7 +2,7 @@
 # Runs the built program on scripts and compares what it writes, its exit status and its error stream. `rt ci` leaves the
 # program in crates/doors/out, so this comes after it. A word names another program.
 #
-# tests/COMMAND/NAME.in is an input of `doors COMMAND`. NAME.out is the output, or NAME.end what the output ends with,
+# tests/COMMAND/NAME.in is an input of `doors COMMAND`, and so is tests/COMMAND/SUBJECT/NAME.in. NAME.out is the output, or NAME.end what the output ends with,
 # NAME.status the status, 0 where there is none, and NAME.err, where it is there, exactly what is on the error stream. examples/NAME.doors is played to NAME.trace, which `check` finds legal, and
 # illegal with a change. In the pages a block that begins with ```doors is a script, and the next that begins with ```trace
 # is what `play` writes for it. In the tutorial a row of a table that begins with a script has the last line of that.
@@ -35,6 +35,7 @@ trap 'rm -rf "$work"' EXIT
 trap 'exit 1' HUP INT TERM
 passed=0
 failed=0
+cases=0
 seen=
 
 pass() { passed=$((passed + 1)); }
@@ -102,9 +103,11 @@ statuses_of() {
     if [ -f "$1.status" ]; then cat "$1.status"; else echo 0; fi
 }
 
-# Each NAME.in of the folder, which is named for the command.
+# Each NAME.in of the folder, which is named for the command, and of the folders in it.
 folder() {
-    for input in "tests/$1"/*.in; do
+    for input in "tests/$1"/*.in "tests/$1"/*/*.in; do
+        [ -f "$input" ] || continue
+        cases=$((cases + 1))
         name=${input%.in}
         text=$name.out
         run "$1" <"$input"
@@ -278,7 +281,7 @@ run_as_play() {
 
 # Every script that there is.
 runs() {
-    for input in examples/*.doors tests/play/*.in tests/show/*.in "$work"/*.md/*.in; do
+    for input in examples/*.doors tests/play/*/*.in tests/show/*.in "$work"/*.md/*.in; do
         run_as_play "$input"
     done
 }
@@ -646,7 +649,7 @@ loads() {
 
 # A kill at each turn of a nested call: `check` finds legal what `play` writes.
 killed_at_each_turn() {
-    for input in tests/play/server_killed_at_turn_*_of_a_nested_call.in; do
+    for input in tests/play/leaving/server_killed_at_turn_*_of_a_nested_call.in; do
         run play <"$input"
         cp "$work/out" "$work/killed"
         echo "legal $(grep -c '^[0-9]' "$work/killed")" >"$work/legal"
@@ -658,7 +661,7 @@ killed_at_each_turn() {
 
 # A reader of the output that goes away after the first byte.
 readers_that_go() {
-    input=tests/play/sixteen_thousand_calls.in
+    input=tests/play/schedules/sixteen_thousand_calls.in
     for word in play run; do
         { "$program" $word <"$input" 2>"$work/err"; echo $? >"$work/found"; } | head -c 1 >"$work/first"
         : >"$work/out"
@@ -821,5 +824,6 @@ for program in "$@"; do
 done
 if [ -x "$1" ]; then tools "$1"; fi
 if sh tests/edits.sh; then pass; else fail "tests/edits.sh" "a wrong body does not fit the code"; fi
+echo "$cases cases of $(ls -d tests/play tests/run tests/show tests/check | tr '\n' ' ')with $# programs"
 echo "$passed passed, $failed failed"
 [ "$failed" -eq 0 ]

@@ -167,8 +167,8 @@ refuse() {
     echo "$1: $refused of $most, and $untold without words"
 }
 
-for file in tests/play/interrupts_from_the_root_of_a_chain_down.in tests/play/sixty_four_associations_of_one_pipe_fire_at_one_event.in \
-    tests/play/spares_and_work.in tests/play/notices_of_two_doors_at_one_event_go_by_door_number.in examples/time_out.doors \
+for file in tests/play/leaving/interrupts_from_the_root_of_a_chain_down.in tests/play/associations/sixty_four_associations_of_one_pipe_fire_at_one_event.in \
+    tests/play/tasks/spares_and_work.in tests/play/notices/notices_of_two_doors_at_one_event_go_by_door_number.in examples/time_out.doors \
     examples/nscd.doors; do
     script=$top/$file
     name=$(basename "${file%.*}")
@@ -184,7 +184,7 @@ done
 # answers with words on the error stream
 for name in stalled_in_a_call_at_ports_and_for_a_path call_of_a_common_door_whose_only_thread_is_bound budget_used_up \
     turn_of_a_server_whose_process_was_killed refused_turn version_5; do
-    refuse "play $name" play "$top/tests/play/$name.in"
+    refuse "play $name" play "$(echo "$top"/tests/play/*/"$name.in")"
 done
 for name in variables_that_nothing_sets lines_after_serve_and_exit unknown_command string_with_no_end procedure_of_another_process; do
     refuse "show $name" show "$top/tests/show/$name.in"

@@ -237,7 +237,7 @@ every_trace() {
     for script in examples/*.doors; do
         replay "$script" "$script" "${script%.doors}.trace"
     done
-    for script in tests/play/*.in; do
+    for script in tests/play/*/*.in; do
         [ -f "${script%.in}.out" ] || continue
         case $(tail -n 1 "${script%.in}.out") in
         "refused turn "* | "end budget "*) replay "$script" "$script" "${script%.in}.out" ;;
