@@ -123,9 +123,11 @@ void name_place(int number, const char *program)
 	unsigned threads = 0, spares = 0;
 
 	spell_name(program, base, 10);
+	/* a second p is not p2, which is what another process is called before it has a name */
+	const char *between = base[1] ? "" : "_";
 	snprintf(name, sizeof name, "%s", base);
 	for (unsigned n = 2; is_name_taken(name); n++)
-		snprintf(name, sizeof name, "%s%u", base, n);
+		snprintf(name, sizeof name, "%s%s%u", base, between, n);
 	snprintf(place->name, sizeof place->name, "%.12s", name);
 	for (int t = place->first; t <= place->last; t++) {
 		enum member_kind kind = doord.member[t].kind;
