@@ -9,17 +9,23 @@
 #include <sys/stat.h>
 #include <unistd.h>
 
-/* The table that every program reads before it opens a file. */
+/*
+ * The table that every program reads before it opens a file. No program can write it or make it smaller, which would end doord and all others
+ * by SIGBUS. The path leads to doord's descriptor, which stays open.
+ */
 void open_table(void)
 {
-	int file = open(doord.table_path, O_RDWR | O_CREAT | O_EXCL | O_CLOEXEC, 0600);
+	int file = memfd_create("doord-table", MFD_CLOEXEC | MFD_ALLOW_SEALING);
+	char place[64];
 
 	if (file < 0 || ftruncate(file, sizeof *doord.table) < 0)
-		fail("%s: %s", doord.table_path, strerror(errno));
+		fail("the table of paths: %s", strerror(errno));
 	doord.table = mmap(NULL, sizeof *doord.table, PROT_READ | PROT_WRITE, MAP_SHARED, file, 0);
-	if (doord.table == MAP_FAILED)
+	if (doord.table == MAP_FAILED || fcntl(file, F_ADD_SEALS, F_SEAL_SHRINK | F_SEAL_GROW | F_SEAL_FUTURE_WRITE | F_SEAL_SEAL) < 0)
+		fail("the table of paths: %s", strerror(errno));
+	snprintf(place, sizeof place, "/proc/%d/fd/%d", (int)getpid(), file);
+	if (symlink(place, doord.table_path) < 0)
 		fail("%s: %s", doord.table_path, strerror(errno));
-	close(file);
 }
 
 static int find_file(uint64_t device, uint64_t inode)
