@@ -79,6 +79,7 @@ struct place {
 	char occupant[WIRE_NAME]; /* the program that had it last */
 	char name[DOORD_NAME];   /* empty until the first program has it */
 	int parent;              /* whose fork begins it; 0 of those that init begins */
+	uint32_t token;          /* of a child that has begun and has not come: nobody else has it; else 0 */
 	bool is_born, is_spent;
 	struct client *client;   /* who has it */
 	int first, keeper, last; /* its members */
@@ -289,7 +290,8 @@ void tell_validity(void);
 /* doord_forks.c */
 void ask_fork(struct slot *slot, int member);
 void fork_failed(struct slot *slot);
-void forked(uint32_t token, pid_t pid);
+void forked(const struct client *parent, uint32_t token, pid_t pid);
+int place_of_token(uint32_t token);
 
 /* doord_clients.c: programs that come and go */
 void take_connection(void);
@@ -316,6 +318,8 @@ void take_signals(void);
 /* doord_quiet.c */
 void note_activity(void);
 int time_to_look(void);
+pid_t parent_of(pid_t pid);
+bool is_below(pid_t pid);
 void look_around(void);
 void tell_all_below(int signal_number);
 

@@ -247,18 +247,18 @@ static bool ask_peer(struct client *client, struct ucred *peer)
 /* The place of a program: the child that its fork began, or one that nobody has. */
 static int place_for(struct client *client, uint32_t token, const char *program)
 {
-	if (token != 0 && token <= (uint32_t)doord.places) {
-		struct place *place = &doord.place[token];
-		bool is_there = place->parent != 0 && place->is_born && !place->is_spent;
-		if (is_there && place->client && place->client->control < 0 && place->client->pid == client->pid) {
-			/* announced by its parent: that stub is this client */
-			struct client *stub = place->client;
-			stub->place = 0;
-			end_client(stub);
-			place->client = NULL;
-		}
-		if (is_there && !place->client)
-			return (int)token;
+	int child = place_of_token(token);
+	struct client *stub = child ? doord.place[child].client : NULL;
+
+	if (stub && stub->control < 0 && stub->pid == client->pid) {
+		/* announced by its parent: that stub is this client */
+		stub->place = 0;
+		end_client(stub);
+		doord.place[child].client = stub = NULL;
+	}
+	if (child && !stub) {
+		doord.place[child].token = 0;
+		return child;
 	}
 	int place = find_place(program);
 	return place && begin_place(place, program) ? place : 0;
@@ -345,7 +345,7 @@ static void take_message(struct client *client, const struct wire_message *messa
 		break;
 	case WIRE_FORKED:
 		close_files(file, files);
-		forked(message->a, (pid_t)message->b);
+		forked(client, message->a, (pid_t)message->b);
 		break;
 	default:
 		close_files(file, files);

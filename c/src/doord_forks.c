@@ -2,8 +2,35 @@
 #include "doord.h"
 
 #include <errno.h>
+#include <sys/random.h>
 #include <sys/syscall.h>
 #include <unistd.h>
+
+/*
+ * A child says whose it is by a token: below, the number of its place, and above what nobody can guess, since whoever comes with a token has
+ * the descriptors of another program.
+ */
+enum { TOKEN_PLACE = 128 };
+
+_Static_assert((int)DOORD_PLACES < (int)TOKEN_PLACE, "a place has room in a token");
+
+static void make_token(int number)
+{
+	uint32_t some;
+
+	if (getrandom(&some, sizeof some, 0) != (ssize_t)sizeof some)
+		fail("there are no random numbers");
+	doord.place[number].token = some / TOKEN_PLACE * TOKEN_PLACE + (uint32_t)number;
+}
+
+/* The child that has begun and has not come yet; 0 where it is none. */
+int place_of_token(uint32_t token)
+{
+	uint32_t number = token % TOKEN_PLACE;
+	bool is_there = number >= 2 && number <= (uint32_t)doord.places && doord.place[number].token == token;
+
+	return is_there && doord.place[number].is_born && !doord.place[number].is_spent ? (int)number : 0;
+}
 
 void ask_fork(struct slot *slot, int number)
 {
@@ -29,37 +56,42 @@ void ask_fork(struct slot *slot, int number)
 		return;
 	}
 	adopt_child(child, member->place);
-	begin_reply(slot, KERNEL_ANSWER_CHILD)->a = (uint32_t)child;
+	make_token(child);
+	begin_reply(slot, KERNEL_ANSWER_CHILD)->a = doord.place[child].token;
 }
 
-/* A child that its fork began, and that nobody has yet. */
-static bool is_expected(uint32_t token)
+/* A child of this program that its fork began, and that nobody has yet; else 0. */
+static int expected(const struct client *parent, uint32_t token)
 {
-	return token >= 2 && token <= (uint32_t)doord.places && doord.place[token].parent != 0 && doord.place[token].is_born
-		&& !doord.place[token].is_spent && !doord.place[token].client;
+	int child = place_of_token(token);
+
+	return child != 0 && doord.place[child].parent == parent->place && !doord.place[child].client ? child : 0;
 }
 
 /* The system had no process for the child. */
 void fork_failed(struct slot *slot)
 {
-	uint32_t token = slot->request.a;
+	int child = expected(slot->client, slot->request.a);
 
-	if (is_expected(token))
-		end_place((int)token);
+	if (child != 0)
+		end_place(child);
 	begin_reply(slot, KERNEL_ANSWER_DONE);
 }
 
 /* The parent says who the child is, so that its end is seen though it never comes itself. */
-void forked(uint32_t token, pid_t pid)
+void forked(const struct client *parent, uint32_t token, pid_t pid)
 {
-	if (!is_expected(token))
+	int child = expected(parent, token);
+
+	if (child == 0)
 		return;
-	struct client *client = new_client(pid);
+	bool is_child = pid > 0 && (parent_of(pid) == parent->pid || is_below(pid));
+	struct client *client = is_child ? new_client(pid) : NULL;
 	if (!client) {
-		end_place((int)token);
+		end_place(child);
 		return;
 	}
-	client->place = (int)token;
-	doord.place[token].client = client;
-	remark("pid %d is %s, by fork", (int)pid, doord.place[token].name);
+	client->place = child;
+	doord.place[child].client = client;
+	remark("pid %d is %s, by fork", (int)pid, doord.place[child].name);
 }

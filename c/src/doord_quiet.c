@@ -68,7 +68,7 @@ static bool read_file(const char *name, char *text, size_t room)
 }
 
 /* The parent of a process, 0 where it is not there, or has ended. */
-static pid_t parent_of(pid_t pid)
+pid_t parent_of(pid_t pid)
 {
 	char name[64], text[1024];
 
@@ -81,7 +81,8 @@ static pid_t parent_of(pid_t pid)
 	return parent;
 }
 
-static bool is_below(pid_t pid)
+/* Whether doord has started it, or another that did. */
+bool is_below(pid_t pid)
 {
 	pid_t self = getpid();
 
