@@ -9,6 +9,7 @@
 #include <sys/epoll.h>
 #include <sys/socket.h>
 #include <sys/stat.h>
+#include <sys/syscall.h>
 #include <sys/un.h>
 #include <unistd.h>
 
@@ -119,7 +120,7 @@ static void take_event(struct watch *watch, enum watch_kind kind)
 		take_connection();
 		break;
 	case WATCH_CONTROL:
-		take_messages(client);
+		take_some_messages(client);
 		break;
 	case WATCH_BELL:
 		take_requests(client);
@@ -189,7 +190,7 @@ static void stop_programs(void)
 	if (!doord.command_ended)
 		kill(doord.command, SIGTERM);
 	for (struct client *client = doord.clients; client; client = client->next)
-		kill(client->pid, SIGTERM);
+		(void)syscall(SYS_pidfd_send_signal, client->death, SIGTERM, NULL, 0);
 }
 
 /* Where a standard stream is closed nothing else is to lie in its place; the command has it closed as before. */

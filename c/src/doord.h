@@ -20,7 +20,9 @@ enum {
 	DOORD_PROCEDURES = 64, /* procedures of a process */
 	DOORD_QUEUE = 32,     /* calls that may wait in a pool */
 	DOORD_STRANGERS = 128, /* connections that have not said who they are */
-	DOORD_MESSAGES = 512, /* messages of one program that are read before others have their turn */
+	DOORD_MESSAGES = 512, /* messages of one program that are read before a request that may speak of them */
+	DOORD_MESSAGES_AT_ONCE = 32, /* and where none does, before others have their turn */
+	DOORD_UNREAD = 128 * 1024, /* bytes of messages that a program need not have read: those of all its threads have room */
 };
 
 /* statuses of doord itself, as env(1) and timeout(1) have them */
@@ -138,6 +140,8 @@ struct client {
 	bool is_gone;
 	unsigned spawn; /* server threads that it is still to make */
 	unsigned expected; /* stand-ins that it is still to send */
+	unsigned files_kept, most_files; /* of its parcels */
+	bool is_odd_told; /* that a stand-in of it is none was said */
 	struct wire_area *area;
 	struct watch on_control, on_bell, on_death;
 	/* of one that has a place */
@@ -296,6 +300,7 @@ int place_of_token(uint32_t token);
 /* doord_clients.c: programs that come and go */
 void take_connection(void);
 void take_messages(struct client *client);
+void take_some_messages(struct client *client);
 void end_client(struct client *client);
 void close_stand_in(struct client *client, unsigned row);
 void expect_stand_in(struct client *client, uint64_t row);
@@ -305,6 +310,10 @@ void free_gone(void);
 void send_files(struct slot *slot);
 bool take_parcel(struct slot *slot, int *file, unsigned count);
 
+/* doord_files.c: files of programs */
+void close_file(int file);
+void close_files(const int *file, unsigned files);
+unsigned most_files_kept(void);
 
 /* doord_ends.c */
 void end_place(int place);

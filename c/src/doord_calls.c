@@ -151,8 +151,7 @@ static bool make_items(struct slot *slot, int member, uint64_t *item)
 			taken++;
 		} else {
 			int error = host_error(answer.number[0]);
-			for (unsigned f = taken; f < asked->files; f++)
-				close(file[f]);
+			close_files(file + taken, asked->files - taken);
 			undo_items(slot, member, item, i);
 			reply_error(slot, error);
 			return false;

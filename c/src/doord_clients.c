@@ -10,6 +10,7 @@
 #include <sys/eventfd.h>
 #include <sys/mman.h>
 #include <sys/socket.h>
+#include <sys/stat.h>
 #include <sys/syscall.h>
 #include <unistd.h>
 
@@ -83,28 +84,32 @@ static int receive_message(int socket, struct wire_message *message, int *file, 
 	return n == (ssize_t)sizeof *message;
 }
 
-static void close_files(const int *file, unsigned files)
-{
-	for (unsigned i = 0; i < files; i++)
-		close(file[i]);
-}
-
-/* Files that go with a reply; doord keeps none of them. */
+/*
+ * Files that go with a reply; doord keeps none of them. There is room for those of all threads: a program that reads none of them is cut off,
+ * since files on their way are counted against all programs of the user.
+ */
 void send_files(struct slot *slot)
 {
 	struct wire_message message = { .kind = WIRE_FILES, .a = slot->index, .b = slot->request.number };
+	struct client *client = slot->client;
+	int error = send_message(client->control, &message, slot->file, slot->files) ? 0 : errno;
 
 	/* a program that has died meanwhile wants none */
-	if (!send_message(slot->client->control, &message, slot->file, slot->files) && errno != EPIPE && errno != ECONNRESET)
-		complain("%s: descriptors of files could not be handed over: %s", doord.place[slot->client->place].name, strerror(errno));
+	if (error != 0 && error != EPIPE && error != ECONNRESET)
+		complain("%s: descriptors of files could not be handed over: %s", doord.place[client->place].name, strerror(error));
 	close_files(slot->file, slot->files);
 	slot->files = 0;
+	if (error == EAGAIN)
+		end_client(client);
 }
 
 /* files that came for a request */
 
-static void drop_parcel(struct parcel **at)
+static void drop_parcel(struct client *client, unsigned slot)
 {
+	struct parcel **at = &client->parcel[slot];
+
+	client->files_kept -= (*at)->count;
 	free(*at);
 	*at = NULL;
 }
@@ -112,15 +117,20 @@ static void drop_parcel(struct parcel **at)
 /* One for each slot: those of a request that never came give way. */
 static void keep_parcel(struct client *client, const struct wire_message *message, const int *file, unsigned files)
 {
-	if (!client->parcel || message->a >= WIRE_SLOTS) {
+	if (message->a >= WIRE_SLOTS) {
 		close_files(file, files);
 		return;
 	}
 	struct parcel **at = &client->parcel[message->a];
 	if (*at) {
 		close_files((*at)->file, (*at)->count);
-		drop_parcel(at);
+		drop_parcel(client, message->a);
 	}
+	if (client->files_kept + files > client->most_files) {
+		close_files(file, files);
+		return;
+	}
+	client->files_kept += files;
 	*at = calloc(1, sizeof **at);
 	if (!*at)
 		fail("there is no memory");
@@ -141,7 +151,7 @@ bool take_parcel(struct slot *slot, int *file, unsigned count)
 		memcpy(file, (*at)->file, count * sizeof *file);
 	else
 		close_files((*at)->file, (*at)->count);
-	drop_parcel(at);
+	drop_parcel(slot->client, slot->index);
 	return fits || count == 0;
 }
 
@@ -171,21 +181,31 @@ void close_stand_in(struct client *client, unsigned row)
 	stand_in->end = -1;
 }
 
+/* A pipe; of no other file is anything asked that its program could keep from coming to an end. */
+static bool is_pipe(int file)
+{
+	struct statx found;
+
+	return statx(file, "", AT_EMPTY_PATH | AT_STATX_DONT_SYNC, STATX_TYPE, &found) == 0 && S_ISFIFO(found.stx_mode);
+}
+
 static void take_stand_in(struct client *client, uint32_t row, int end)
 {
-	if (row >= DOORD_ROWS || !client->stand_in || !doord.place[client->place].row[row]) {
-		close(end);
+	if (row >= DOORD_ROWS || !doord.place[client->place].row[row]) {
+		close_file(end);
 		return;
 	}
 	close_stand_in(client, row);
 	client->stand_in[row].watch = (struct watch){ WATCH_STAND_IN, client, row };
-	if (watch(end, &client->stand_in[row].watch, 0)) {
+	if (is_pipe(end) && watch(end, &client->stand_in[row].watch, 0)) {
 		client->stand_in[row].end = end;
 		return;
 	}
-	/* no pipe: a thread of the program closed what was not its own, perhaps */
-	complain("%s: what stands in for descriptor %u is none that can be watched", doord.place[client->place].name, (unsigned)row);
-	close(end);
+	/* a thread of the program closed what was not its own, perhaps */
+	if (!client->is_odd_told)
+		complain("%s: what stands in for descriptor %u is none that can be watched", doord.place[client->place].name, (unsigned)row);
+	client->is_odd_told = true;
+	close_file(end);
 }
 
 /* The program's end was closed without a word, as by exec(2): the keeper closes the descriptor. */
@@ -209,6 +229,7 @@ static bool make_room(struct client *client)
 	client->parcel = calloc(WIRE_SLOTS, sizeof *client->parcel);
 	if (!client->stand_in || !client->slot || !client->parcel)
 		return false;
+	client->most_files = most_files_kept();
 	for (unsigned i = 0; i < DOORD_ROWS; i++)
 		client->stand_in[i].end = -1;
 	for (unsigned i = 0; i < WIRE_SLOTS; i++) {
@@ -327,8 +348,19 @@ static void take_hello(struct client *client, const struct wire_message *hello)
 
 /* messages */
 
+/* Who has not said hello says nothing else, and libdoor says nothing but these. */
+static bool is_in_place(const struct client *client, uint32_t kind)
+{
+	return kind == WIRE_HELLO || (client->place != 0 && (kind == WIRE_STAND_IN || kind == WIRE_FILES || kind == WIRE_FORKED));
+}
+
 static void take_message(struct client *client, const struct wire_message *message, const int *file, unsigned files)
 {
+	if (!is_in_place(client, message->kind)) {
+		close_files(file, files);
+		end_client(client);
+		return;
+	}
 	switch (message->kind) {
 	case WIRE_HELLO:
 		close_files(file, files);
@@ -347,18 +379,16 @@ static void take_message(struct client *client, const struct wire_message *messa
 		close_files(file, files);
 		forked(client, message->a, (pid_t)message->b);
 		break;
-	default:
-		close_files(file, files);
 	}
 }
 
-void take_messages(struct client *client)
+static void take_so_many(struct client *client, unsigned most)
 {
 	struct wire_message message;
 	int file[WIRE_ITEMS];
 	unsigned files;
 
-	for (unsigned count = 0; count < DOORD_MESSAGES && !client->is_gone; count++) {
+	for (unsigned count = 0; count < most && !client->is_gone; count++) {
 		int got = receive_message(client->control, &message, file, &files);
 		if (got < 0)
 			return;
@@ -369,6 +399,18 @@ void take_messages(struct client *client)
 		}
 		take_message(client, &message, file, files);
 	}
+}
+
+/* All that a request may speak of. */
+void take_messages(struct client *client)
+{
+	take_so_many(client, DOORD_MESSAGES);
+}
+
+/* What there is, as far as others need not wait for it long. */
+void take_some_messages(struct client *client)
+{
+	take_so_many(client, DOORD_MESSAGES_AT_ONCE);
 }
 
 /* coming and going */
@@ -384,6 +426,36 @@ static void send_away(void)
 	doord.reserve = open("/dev/null", O_RDWR | O_CLOEXEC);
 }
 
+/* How many connections of this process wait for its hello. */
+static unsigned strangers_of(pid_t pid)
+{
+	unsigned count = 0;
+
+	for (const struct client *client = doord.clients; client; client = client->next)
+		count += client->pid == pid && client->place == 0;
+	return count;
+}
+
+/* Where there are too many that say nothing, the first that came of the process that has most of them makes room. */
+static void make_room_for_strangers(void)
+{
+	struct client *first = NULL;
+	unsigned most = 0;
+
+	if (doord.strangers < DOORD_STRANGERS)
+		return;
+	/* those that came last stand first */
+	for (struct client *client = doord.clients; client; client = client->next) {
+		unsigned count = client->place == 0 ? strangers_of(client->pid) : 0;
+		if (count > 0 && count >= most) {
+			first = client;
+			most = count;
+		}
+	}
+	if (first)
+		end_client(first);
+}
+
 void take_connection(void)
 {
 	int control = accept4(doord.listener, NULL, NULL, SOCK_CLOEXEC | SOCK_NONBLOCK);
@@ -395,12 +467,14 @@ void take_connection(void)
 			send_away();
 		return;
 	}
-	bool is_welcome = doord.strangers < DOORD_STRANGERS && ask_peer(&someone, &peer);
-	struct client *client = is_welcome ? new_client(peer.pid) : NULL;
+	struct client *client = ask_peer(&someone, &peer) ? new_client(peer.pid) : NULL;
 	if (!client) {
 		close(control);
 		return;
 	}
+	const int unread = DOORD_UNREAD / 2; /* the system takes it twice */
+	(void)setsockopt(control, SOL_SOCKET, SO_SNDBUF, &unread, sizeof unread);
+	make_room_for_strangers();
 	doord.strangers++;
 	client->control = control;
 	client->euid = peer.uid;
@@ -444,7 +518,7 @@ static void close_room(struct client *client)
 		slot->is_busy = false;
 		if (client->parcel[i]) {
 			close_files(client->parcel[i]->file, client->parcel[i]->count);
-			drop_parcel(&client->parcel[i]);
+			drop_parcel(client, i);
 		}
 	}
 }

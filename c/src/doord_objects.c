@@ -25,7 +25,7 @@ void drop(struct object *object)
 	if (!object || --object->holders > 0)
 		return;
 	if (object->file >= 0)
-		close(object->file);
+		close_file(object->file);
 	free(object);
 }
 

@@ -26,10 +26,14 @@ static const char help[] =
 	"Ends with COMMAND's status; 122 after the last event that a history may have, 125 where doord failed, 126 and 127 where COMMAND\n"
 	"could not be run, or was not found.\n";
 
+/* A program's name may have any bytes, and a terminal obeys some. */
 static void say(const char *form, va_list list)
 {
 	char line[1024];
 	vsnprintf(line, sizeof line, form, list);
+	for (unsigned char *at = (unsigned char *)line; *at; at++)
+		if (*at < 0x20 || *at == 0x7f || (*at == 0xc2 && at[1] >= 0x80 && at[1] <= 0x9f))
+			*at = '?';
 	fprintf(stderr, "doord: %s\n", line);
 }
 

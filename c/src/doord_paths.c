@@ -115,11 +115,13 @@ static int name_path(const char *text)
 /* The same for a file that nothing is attached to. Where another file of this text is attached still, this is a path of another text. */
 static int name_file(const char *text)
 {
+	enum { TRIED = 9 };
 	char other[4096];
 	int path = name_path(text);
 
 	for (unsigned n = 2; path >= 0 && doord.path[path].door; n++) {
-		snprintf(other, sizeof other, "%.4000s (%u)", text, n);
+		/* where many are attached still, a number that none has */
+		snprintf(other, sizeof other, "%.4000s (%u)", text, n <= TRIED ? n : n + doord.paths);
 		path = name_path(other);
 	}
 	return path;
@@ -166,6 +168,12 @@ static void put_path(unsigned number, int file, const struct stat *found, struct
 	atomic_store(&doord.table->attached, doord.attached);
 }
 
+/* Who owns the file attaches and detaches; root, too. */
+static bool may_attach(const struct client *client, const struct stat *found)
+{
+	return client->euid == 0 || client->euid == found->st_uid;
+}
+
 void ask_attach(struct slot *slot, int number)
 {
 	struct member *member = &doord.member[number];
@@ -177,19 +185,25 @@ void ask_attach(struct slot *slot, int number)
 		reply_error(slot, EINVAL);
 		return;
 	}
-	int path = fstat(file, &found) == 0 ? find_file(found.st_dev, found.st_ino) : -1;
-	if (path < 0)
+	if (fstat(file, &found) < 0 || !may_attach(slot->client, &found)) {
+		close_file(file);
+		reply_error(slot, EPERM);
+		return;
+	}
+	/* a path is the history's for good, so one is named where there is something to attach */
+	struct object *door = row_of(member->place, slot->request.a);
+	int path = find_file(found.st_dev, found.st_ino);
+	if (path < 0 && door)
 		path = name_file(text);
 	if (path < 0) {
-		close(file);
-		reply_error(slot, EMFILE);
+		close_file(file);
+		reply_error(slot, door ? EMFILE : EBADF);
 		return;
 	}
 	struct asked asked = { .op = KERNEL_OP_ATTACH, .a = slot->request.a, .b = (uint32_t)path };
-	struct object *door = row_of(member->place, slot->request.a);
 	enter_kernel(number, &asked);
 	if (answer.kind == KERNEL_ANSWER_FAILURE || !door) {
-		close(file);
+		close_file(file);
 		reply_error(slot, host_error(answer.number[0]));
 		return;
 	}
@@ -201,9 +215,14 @@ void ask_detach(struct slot *slot, int number)
 {
 	int path = find_file(slot->request.c, slot->request.d);
 	struct asked asked = { .op = KERNEL_OP_DETACH, .b = (uint32_t)path };
+	struct stat found;
 
 	if (path < 0) {
 		reply_error(slot, EINVAL);
+		return;
+	}
+	if (fstat(doord.path[path].file, &found) < 0 || !may_attach(slot->client, &found)) {
+		reply_error(slot, EPERM);
 		return;
 	}
 	enter_kernel(number, &asked);
@@ -213,7 +232,7 @@ void ask_detach(struct slot *slot, int number)
 	}
 	atomic_store(&doord.table->path[path].used, 0);
 	atomic_store(&doord.table->attached, --doord.attached);
-	close(doord.path[path].file);
+	close_file(doord.path[path].file);
 	doord.path[path].file = -1;
 	drop(doord.path[path].door);
 	doord.path[path].door = NULL;

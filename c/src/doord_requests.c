@@ -68,8 +68,13 @@ void hand_over(void)
 		slot->is_replied = false;
 		if (slot->client->is_gone)
 			continue;
-		if (slot->files > 0)
+		if (slot->files > 0) {
 			send_files(slot);
+			/* where that ended the program, others were answered by it */
+			write_history();
+			if (slot->client->is_gone)
+				continue;
+		}
 		wake(&slot->client->area->slot[slot->index].turn);
 	}
 	doord.replied_count = 0;
@@ -399,6 +404,8 @@ static bool copy_request(struct slot *slot)
 	unsigned files = 0;
 
 	memcpy(to, from, offsetof(struct wire_request, item));
+	/* from here on nothing of this is read from the page again */
+	atomic_signal_fence(memory_order_seq_cst);
 	if (to->data_size > WIRE_DATA || to->items > WIRE_ITEMS || to->files > WIRE_ITEMS) {
 		to->items = to->data_size = to->files = 0;
 		return false;

@@ -461,9 +461,12 @@ static void greedy(void)
 		request->data[0] = 'a';
 		request->data_size = 1;
 		request->c = 100;
-		answered += asked(&raw, 0, 5000);
+		if (!asked(&raw, 0, 5000))
+			break;
+		answered++;
 	}
-	check(answered == 1500);
+	/* those of all threads have room, and whoever takes none is cut off */
+	check(answered >= WIRE_SLOTS && answered < 1500);
 	touch("greedy");
 	wait_for("served");
 }
