@@ -88,6 +88,7 @@ struct place {
 	unsigned doors;          /* that its client made */
 	unsigned waiting;        /* calls of its common pool that no thread has accepted */
 	unsigned procedures;
+	unsigned limits_told;    /* bits of enum limit: what was said of its program */
 	bool is_full_told;       /* that it has too little of something was said */
 	bool is_unserved_told;   /* that calls wait and nobody can serve them was said */
 	struct object *row[DOORD_ROWS];
@@ -252,6 +253,12 @@ void store_member(int member);
 void member_woken(int member);
 void place_full(int place, const char *what);
 void see_that_served(int place);
+
+/* doord_limits.c: limits that are said where a program meets them */
+enum limit { LIMIT_ROWS, LIMIT_QUEUE, LIMIT_PROCEDURES, LIMIT_PATHS };
+
+void tell_limit(int place, enum limit limit);
+bool is_news(const char *program);
 
 /* doord_objects.c: what descriptors lead to */
 struct object *new_object(void);

@@ -231,6 +231,8 @@ void ask_call(struct slot *slot, int number)
 	if (answer.kind != KERNEL_ANSWER_WAIT_CALL || !door) {
 		int error = host_error(answer.number[0]);
 		undo_items(slot, number, item, slot->request.items);
+		if (error == EAGAIN)
+			tell_limit(member->place, LIMIT_QUEUE);
 		reply_error(slot, error);
 		return;
 	}

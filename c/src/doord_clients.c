@@ -311,7 +311,8 @@ static void welcome(struct client *client, const struct wire_message *hello)
 	int place = place_for(client, hello->token, program);
 	if (place == 0) {
 		close(file[0]);
-		complain("%s: EAGAIN: no process of the kernel is free for it; -b %s=THREADS,SPARES,CHILDREN keeps one", program, program);
+		if (is_news(program))
+			complain("%s: EAGAIN: no process of the kernel is free for it; -b %s=THREADS,SPARES,CHILDREN keeps one", program, program);
 		refuse_hello(client, EAGAIN);
 		return;
 	}

@@ -197,7 +197,9 @@ void ask_attach(struct slot *slot, int number)
 		path = name_file(text);
 	if (path < 0) {
 		close_file(file);
-		reply_error(slot, door ? EMFILE : EBADF);
+		if (door && doord.paths == WIRE_PATHS)
+			tell_limit(member->place, LIMIT_PATHS);
+		begin_reply(slot, KERNEL_ANSWER_FAILURE)->error = door ? EMFILE : EBADF;
 		return;
 	}
 	struct asked asked = { .op = KERNEL_OP_ATTACH, .a = slot->request.a, .b = (uint32_t)path };

@@ -195,6 +195,8 @@ bool begin_place(int number, const char *program)
 		place->is_born = true;
 		store_members(place);
 	}
+	if (strcmp(place->occupant, program) != 0)
+		place->limits_told = 0;
 	snprintf(place->occupant, sizeof place->occupant, "%s", program);
 	place->doors = 0;
 	return true;

@@ -50,6 +50,8 @@ struct wire_reply *begin_reply(struct slot *slot, uint64_t kind)
 
 void reply_error(struct slot *slot, int error)
 {
+	if (error == EMFILE)
+		tell_limit(slot->client->place, LIMIT_ROWS);
 	begin_reply(slot, KERNEL_ANSWER_FAILURE)->error = (uint32_t)error;
 }
 
@@ -176,6 +178,8 @@ static void ask_simple(struct slot *slot, int number)
 	switch (answer.kind) {
 	case KERNEL_ANSWER_FAILURE:
 		reply->error = (uint32_t)host_error(answer.number[0]);
+		if (answer.number[0] == KERNEL_ERROR_EMFILE)
+			tell_limit(member->place, LIMIT_ROWS);
 		break;
 	case KERNEL_ANSWER_DESCRIPTOR:
 		tell_descriptor(slot, reply);
@@ -235,8 +239,10 @@ static unsigned find_procedure(int number, const char *name)
 			if (strcmp(procedure[i].name, name) == 0)
 				return i;
 		}
-	if (place->procedures == DOORD_PROCEDURES)
+	if (place->procedures == DOORD_PROCEDURES) {
+		tell_limit(number, LIMIT_PROCEDURES);
 		return last;
+	}
 	if (!declare("proc %s of %s", name, place->name))
 		fail("no name for the procedure %s", name);
 	place->procedures++;

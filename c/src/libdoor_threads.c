@@ -17,6 +17,8 @@ static struct {
 /* A free slot, or -1 and errno: more threads of one process ask at a time than there are slots. */
 static int find_slot(void)
 {
+	static _Atomic int said;
+
 	for (unsigned word = 0; word < WIRE_SLOT_WORDS; word++) {
 		uint64_t taken = atomic_load(&own.taken[word]);
 		while (~taken != 0) {
@@ -25,6 +27,7 @@ static int find_slot(void)
 				return (int)word * 64 + bit;
 		}
 	}
+	say_once(&said, "libdoor: EAGAIN: at most 128 threads of a program use doors at once");
 	errno = EAGAIN;
 	return -1;
 }

@@ -16,6 +16,7 @@ case_eagain() {
     run 'up serve -p 1 w; doorwait w; ask w "echo ready"; ask -t 40 w "hold go x" & asks=$!; seen " call 0" 41; touch go; wait $asks' \
         -b 'serve=2,1,0' -b 'ask=41,0,0' -b '*=1,0,0' --eagain
     gives_sorted 'echo ready: ready' '33 ok' '7 EAGAIN'
+    says 'doord: ask: EAGAIN: at most 32 calls wait in a pool; without --eagain further ones are held back'
     run 'up serve -p 1 w; doorwait w; ask w "echo ready"; ask -t 40 w "hold go x" & asks=$!; seen " call 0" 34; touch go; wait $asks' \
         -b 'serve=2,1,0' -b 'ask=41,0,0' -b '*=1,0,0'
     gives 'echo ready: ready' '40 ok'
@@ -38,7 +39,7 @@ case_too_many_threads() {
 
 case_more_threads_than_slots() {
     run 'up serve w; doorwait w; ask -t 128 w "echo x"; ask -t 1 w "echo y"'
-    says_like 'ask.*-b ask='
+    says_like 'ask.*-b ask=|^libdoor: EAGAIN: at most 128 threads of a program use doors at once$' 2
     total=$(awk '{ sum += $1 } END { print sum }' "$work/out")
     [ "$total" = 129 ] || wrong "128 threads and one" "129 answers" "$(cat "$work/out")"
 }
@@ -84,14 +85,24 @@ case_thousand_threads() {
 case_few_descriptors() {
     run 'limits 8' -l 8
     gives 'done'
+    says_like '^doord: limits2?: EMFILE: a process has at most 8 descriptors of doors; -l LIMIT gives more$' 2
     run 'limits 16' -l 16
     gives 'done'
+    says_like '^doord: limits2?: EMFILE: a process has at most 16 descriptors of doors; -l LIMIT gives more$' 2
 }
 
 case_many_procedures() {
     run procedures
     gives 'done'
-    may_say 'procedure'
+    run 'many procedures'
+    gives 'done'
+    says 'doord: many: at most 64 procedures have names in the history: further ones go by the name of the last'
+}
+
+long_many_paths() {
+    run 'many paths'
+    gives 'done'
+    says 'doord: many: EMFILE: doors are attached to at most 4,096 files in the life of a kernel'
 }
 
 # a program may have few files open, and doord as well
