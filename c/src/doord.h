@@ -126,6 +126,7 @@ struct watch {
 
 struct stand_in {
 	int end;          /* the reading end of a pipe whose writing end the program has, or -1 */
+	uint32_t pipe;    /* its number */
 	bool is_expected; /* the program was told of the descriptor, and is to send it */
 	struct watch watch;
 };
@@ -274,6 +275,7 @@ void take_requests(struct client *client);
 void answer_request(struct slot *slot);
 void reply_error(struct slot *slot, int error);
 void tell_descriptor(struct slot *slot, struct wire_reply *reply);
+void see_descriptor(struct slot *slot);
 void hand_over(void);
 struct wire_reply *begin_reply(struct slot *slot, uint64_t kind);
 void unbind_member(int member);
@@ -312,6 +314,7 @@ void end_client(struct client *client);
 void close_stand_in(struct client *client, unsigned row);
 void expect_stand_in(struct client *client, uint64_t row);
 void stand_in_gone(struct client *client, unsigned row);
+bool stands_for(const struct client *client, uint32_t row, uint32_t pipe, uint32_t bits);
 struct client *new_client(pid_t pid);
 void free_gone(void);
 void send_files(struct slot *slot);

@@ -65,9 +65,11 @@ void forget_call(struct member *member)
 	drop_passage(&member->results);
 }
 
-static bool is_pool_full(int place, uint32_t fd)
+/* Of the call that the slot asks for, whose descriptor may have been closed while it was held back. */
+static bool is_pool_full(struct slot *slot, int place)
 {
-	struct object *door = row_of(place, fd);
+	see_descriptor(slot);
+	struct object *door = row_of(place, slot->request.a);
 
 	return !doord.options.eagain && door && door->is_door && *pool_of(door) >= DOORD_QUEUE;
 }
@@ -101,7 +103,7 @@ static bool let_one_go(void)
 {
 	for (size_t i = 0; i < doord.held_count; i++) {
 		struct slot *slot = doord.held[i];
-		if (!is_pool_full(slot->client->place, slot->request.a)) {
+		if (!is_pool_full(slot, slot->client->place)) {
 			let_go(slot);
 			ask_call(slot, slot->member);
 			return true;
@@ -133,6 +135,15 @@ static void undo_items(struct slot *slot, int member, const uint64_t *item, unsi
 			close_row(member, item[i] & UINT32_MAX);
 }
 
+/* A door's descriptor, or none where it was closed meanwhile. */
+static uint64_t item_for(const struct client *client, uint64_t asked)
+{
+	uint32_t row = (uint32_t)asked;
+	bool is_there = stands_for(client, row, (uint32_t)(asked >> WIRE_PIPE), UINT32_MAX >> (WIRE_PIPE - 32));
+
+	return (is_there ? row : WIRE_NO_FD) | (asked & WIRE_RELEASE);
+}
+
 /* What the kernel gets for the items of a request. Where that fails the request is answered, and nothing is left of it. */
 static bool make_items(struct slot *slot, int member, uint64_t *item)
 {
@@ -146,7 +157,7 @@ static bool make_items(struct slot *slot, int member, uint64_t *item)
 	}
 	for (unsigned i = 0; i < asked->items; i++) {
 		if (!(asked->item[i] & WIRE_FILE)) {
-			item[i] = asked->item[i] & (WIRE_RELEASE | UINT32_MAX);
+			item[i] = item_for(slot->client, asked->item[i]);
 		} else if (make_port(member, file[taken], &item[i])) {
 			taken++;
 		} else {
@@ -219,7 +230,7 @@ void ask_call(struct slot *slot, int number)
 	struct member *member = &doord.member[number];
 	uint64_t item[WIRE_ITEMS];
 
-	if (is_pool_full(member->place, slot->request.a)) {
+	if (is_pool_full(slot, member->place)) {
 		hold_back(slot);
 		return;
 	}

@@ -181,24 +181,29 @@ void close_stand_in(struct client *client, unsigned row)
 	stand_in->end = -1;
 }
 
-/* A pipe; of no other file is anything asked that its program could keep from coming to an end. */
-static bool is_pipe(int file)
+/* Of a pipe its number; of no other file is anything asked that its program could keep from coming to an end. */
+static bool is_pipe(int file, uint32_t *number)
 {
 	struct statx found;
 
-	return statx(file, "", AT_EMPTY_PATH | AT_STATX_DONT_SYNC, STATX_TYPE, &found) == 0 && S_ISFIFO(found.stx_mode);
+	if (statx(file, "", AT_EMPTY_PATH | AT_STATX_DONT_SYNC, STATX_TYPE | STATX_INO, &found) != 0 || !S_ISFIFO(found.stx_mode)) return false;
+	*number = (uint32_t)found.stx_ino;
+	return true;
 }
 
 static void take_stand_in(struct client *client, uint32_t row, int end)
 {
-	if (row >= DOORD_ROWS || !doord.place[client->place].row[row]) {
+	uint32_t number;
+
+	if (row >= DOORD_ROWS || !client->stand_in || !doord.place[client->place].row[row]) {
 		close_file(end);
 		return;
 	}
 	close_stand_in(client, row);
 	client->stand_in[row].watch = (struct watch){ WATCH_STAND_IN, client, row };
-	if (is_pipe(end) && watch(end, &client->stand_in[row].watch, 0)) {
+	if (is_pipe(end, &number) && watch(end, &client->stand_in[row].watch, 0)) {
 		client->stand_in[row].end = end;
+		client->stand_in[row].pipe = number;
 		return;
 	}
 	/* a thread of the program closed what was not its own, perhaps */
@@ -206,6 +211,14 @@ static void take_stand_in(struct client *client, uint32_t row, int end)
 		complain("%s: what stands in for descriptor %u is none that can be watched", doord.place[client->place].name, (unsigned)row);
 	client->is_odd_told = true;
 	close_file(end);
+}
+
+/* Whether this pipe stands for the descriptor, as far as the bits of its number say that are there. */
+bool stands_for(const struct client *client, uint32_t row, uint32_t pipe, uint32_t bits)
+{
+	const struct stand_in *stand_in = row < DOORD_ROWS ? &client->stand_in[row] : NULL;
+
+	return pipe == 0 || (stand_in && stand_in->end >= 0 && (stand_in->pipe & bits) == pipe);
 }
 
 /* The program's end was closed without a word, as by exec(2): the keeper closes the descriptor. */

@@ -181,6 +181,7 @@ void ask_attach(struct slot *slot, int number)
 	struct stat found;
 	int file;
 
+	see_descriptor(slot);
 	if (slot->request.files != 1 || !take_parcel(slot, &file, 1)) {
 		reply_error(slot, EINVAL);
 		return;

@@ -116,6 +116,15 @@ void tell_descriptor(struct slot *slot, struct wire_reply *reply)
 	expect_stand_in(slot->client, answer.number[0]);
 }
 
+/* One that another thread of the program has closed meanwhile is none, whatever has its number now. */
+void see_descriptor(struct slot *slot)
+{
+	struct wire_request *request = &slot->request;
+
+	if (!stands_for(slot->client, request->a, (uint32_t)request->d, UINT32_MAX))
+		request->a = WIRE_NO_FD;
+}
+
 static void tell_info(struct wire_reply *reply, const struct object *door)
 {
 	struct client *target = answer.number[0] ? doord.place[answer.number[0]].client : NULL;
@@ -170,6 +179,8 @@ static void ask_simple(struct slot *slot, int number)
 {
 	struct member *member = &doord.member[number];
 	const struct wire_request *request = &slot->request;
+
+	see_descriptor(slot);
 	struct asked asked = { .op = request->op, .a = request->a, .b = request->b, .c = request->c };
 	struct object *door = request->op == KERNEL_OP_INFO_QUERY ? member->bound : row_of(member->place, request->a);
 

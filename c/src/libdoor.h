@@ -11,6 +11,7 @@
 #include <stdbool.h>
 #include <stddef.h>
 #include <stdint.h>
+#include <sys/stat.h>
 #include <sys/types.h>
 #include <time.h>
 
@@ -108,6 +109,7 @@ enum at {
 
 struct ask;
 struct service;
+struct stand_in;
 
 struct thread {
 	volatile int at;
@@ -170,6 +172,7 @@ void resume_ask(struct ask *ask);
 void end_ask(struct ask *ask);
 int ask_simply(struct ask *ask);
 int ask_about(uint32_t op, uint32_t a);
+int ask_about_descriptor(uint32_t op, const struct stand_in *it);
 void end_call_for_handler(struct ask *ask);
 
 /* libdoor_message.c: what goes with calls and returns */
@@ -192,12 +195,23 @@ int place_came(const struct came *came, door_desc_t *desc);
 void drop_came(const struct came *came, const door_desc_t *desc, unsigned placed);
 
 /* libdoor_descriptors.c: descriptors of the program that stand for those of the kernel */
-uint32_t kernel_descriptor(int fd);
+
+/* What a descriptor is: the kernel's number, WIRE_NO_FD for none; the pipe that stands for it; and what fcntl(2) tells of it. */
+struct stand_in {
+	uint32_t row, pipe;
+	int flags; /* the access mode, and O_CLOEXEC */
+};
+
+struct stand_in stand_in_at(int fd);
 bool may_be_stand_in(int fd);
-int new_stand_in(uint32_t row);
-int new_stand_in_at(uint32_t row, int fd);
-int new_stand_in_above(uint32_t row, int least);
-uint32_t take_stand_in(int fd);
+bool is_stand_in_found(int fd, const struct stat *found);
+void name_descriptor(struct wire_request *request, const struct stand_in *it);
+void set_to_close(int fd, bool closes);
+void close_pipe(const int *end);
+int new_stand_in(uint32_t row, int flags);
+int new_stand_in_at(uint32_t row, int flags, int fd, int *end);
+int new_stand_in_above(uint32_t row, int flags, int least);
+struct stand_in take_stand_in(int fd);
 bool forget_stand_in(int fd);
 void renew_stand_ins(bool have_rows);
 int next_stand_in(int from);

@@ -283,3 +283,13 @@ int ask_about(uint32_t op, uint32_t a)
 	ask.request->a = a;
 	return ask_simply(&ask);
 }
+
+int ask_about_descriptor(uint32_t op, const struct stand_in *it)
+{
+	struct ask ask;
+
+	if (begin_ask(&ask, op) < 0)
+		return -1;
+	name_descriptor(ask.request, it);
+	return ask_simply(&ask);
+}

@@ -103,6 +103,7 @@ EXPORT int door_call(int fd, door_arg_t *arg)
 {
 	static const door_arg_t nothing;
 	const door_arg_t *in = arg ? arg : &nothing;
+	const struct stand_in it = stand_in_at(fd);
 	struct ask ask;
 	struct sent sent;
 	struct kept kept;
@@ -110,7 +111,7 @@ EXPORT int door_call(int fd, door_arg_t *arg)
 	if (begin_ask(&ask, KERNEL_OP_CALL) < 0)
 		return -1;
 	ask.kept = &kept;
-	ask.request->a = kernel_descriptor(fd);
+	name_descriptor(ask.request, &it);
 	ask.request->c = in->rbuf ? in->rsize : 0;
 	if (put_message(&ask, &sent, in->data_ptr, in->data_size, in->desc_ptr, in->desc_num) < 0) {
 		give_up_ask(&ask);

@@ -7,7 +7,9 @@
 #include <errno.h>
 #include <fcntl.h>
 #include <limits.h>
+#include <linux/close_range.h>
 #include <stdarg.h>
+#include <sys/resource.h>
 #include <sys/syscall.h>
 #include <unistd.h>
 
@@ -19,7 +21,7 @@ static bool is_kept_here(int fd)
 /* A child by vfork(2) has its parent's memory, and descriptors of its own. */
 static bool is_stand_in_here(int fd)
 {
-	return may_be_stand_in(fd) && is_connected_here() && kernel_descriptor(fd) != WIRE_NO_FD;
+	return may_be_stand_in(fd) && is_connected_here() && stand_in_at(fd).row != WIRE_NO_FD;
 }
 
 static int bad_descriptor(void)
@@ -31,12 +33,12 @@ static int bad_descriptor(void)
 /* In the kernel it is closed. The pipe is not: its number is not free yet. */
 static bool close_in_kernel(int fd)
 {
-	uint32_t row = take_stand_in(fd);
+	struct stand_in it = take_stand_in(fd);
 	int error = errno;
 
-	if (row == WIRE_NO_FD)
+	if (it.row == WIRE_NO_FD)
 		return false;
-	(void)ask_about(KERNEL_OP_CLOSE, row);
+	(void)ask_about_descriptor(KERNEL_OP_CLOSE, &it);
 	errno = error;
 	return true;
 }
@@ -68,10 +70,16 @@ static int close_around(unsigned first, unsigned last, int flags)
 	return from <= last && from >= first ? real_close_range(from, last, flags) : 0;
 }
 
+/*
+ * With CLOSE_RANGE_CLOEXEC nothing is closed now. With CLOSE_RANGE_UNSHARE other threads keep theirs, so a close is made in the kernel when
+ * nobody has the descriptor any more.
+ */
 EXPORT int close_range(unsigned first, unsigned last, int flags)
 {
-	if (flags != 0 || first > last || !is_connected_here())
+	if ((flags & ~(int)CLOSE_RANGE_UNSHARE) || first > last || !is_connected_here())
 		return real_close_range(first, last, flags);
+	if (flags != 0)
+		return close_around(first, last, flags);
 	for (int fd = next_stand_in(first > INT_MAX ? INT_MAX : (int)first); fd >= 0 && (unsigned)fd <= last; fd = next_stand_in(fd + 1))
 		(void)close_in_kernel(fd);
 	return close_around(first, last, flags);
@@ -85,13 +93,13 @@ EXPORT void closefrom(int first)
 /* copies */
 
 /* A copy in the kernel: its number there, or -1 and errno. */
-static int copy_in_kernel(int fd, uint32_t *row)
+static int copy_in_kernel(const struct stand_in *it, uint32_t *row)
 {
 	struct ask ask;
 
 	if (begin_ask(&ask, KERNEL_OP_DUPLICATE) < 0)
 		return -1;
-	ask.request->a = kernel_descriptor(fd);
+	name_descriptor(ask.request, it);
 	if (ask_simply(&ask) < 0)
 		return -1;
 	*row = ask.a;
@@ -110,11 +118,18 @@ static int or_close(int fd, uint32_t row)
 	return fd;
 }
 
-static int copy_above(int fd, int least)
+/* What fcntl(2) tells of a copy: the access mode is that of the first, and close-on-exec is not. */
+static int flags_of_copy(const struct stand_in *it, int closes)
 {
+	return (it->flags & O_ACCMODE) | closes;
+}
+
+static int copy_above(int fd, int least, int closes)
+{
+	const struct stand_in it = stand_in_at(fd);
 	uint32_t row;
 
-	return copy_in_kernel(fd, &row) < 0 ? -1 : or_close(new_stand_in_above(row, least), row);
+	return copy_in_kernel(&it, &row) < 0 ? -1 : or_close(new_stand_in_above(row, flags_of_copy(&it, closes), least), row);
 }
 
 EXPORT int dup(int fd)
@@ -125,23 +140,47 @@ EXPORT int dup(int fd)
 		return bad_descriptor();
 	if (!is_stand_in_here(fd))
 		return real_dup(fd);
-	return copy_in_kernel(fd, &row) < 0 ? -1 : or_close(new_stand_in(row), row);
+	const struct stand_in it = stand_in_at(fd);
+	return copy_in_kernel(&it, &row) < 0 ? -1 : or_close(new_stand_in(row, flags_of_copy(&it, 0)), row);
 }
 
-/* What `to` was is closed first. */
+/*
+ * A copy of a door's descriptor at the number `to`. What that was is closed first, in the kernel as well, but not where there is no room
+ * for the copy.
+ */
+static int copy_door_to(int from, int to, int closes)
+{
+	const struct stand_in it = stand_in_at(from);
+	uint32_t row;
+	int end[2];
+
+	if (pipe2(end, O_CLOEXEC) < 0)
+		return -1;
+	bool was_door = is_stand_in_here(to) && close_in_kernel(to);
+	if (copy_in_kernel(&it, &row) == 0)
+		return or_close(new_stand_in_at(row, flags_of_copy(&it, closes), to, end), row);
+	int error = errno;
+	close_pipe(end);
+	if (was_door)
+		(void)syscall(SYS_close, to);
+	errno = error;
+	return -1;
+}
+
 static int copy_to(int from, int to, int flags)
 {
-	uint32_t row;
+	struct rlimit limit;
 
 	if (is_kept_here(from) || is_kept_here(to) || real_fcntl(from, F_GETFD, NULL) < 0)
 		return bad_descriptor();
-	if (is_stand_in_here(from) && (to < 0 || to >= LIBDOOR_DESCRIPTORS))
-		return bad_descriptor();
-	if (is_stand_in_here(to))
-		(void)close_in_kernel(to);
-	if (!is_stand_in_here(from))
+	if (!is_stand_in_here(from)) {
+		if (getrlimit(RLIMIT_NOFILE, &limit) == 0 && (rlim_t)to < limit.rlim_cur)
+			(void)close_in_kernel(to);
 		return flags == 0 ? real_dup2(from, to) : real_dup3(from, to, flags);
-	return copy_in_kernel(from, &row) < 0 ? -1 : or_close(new_stand_in_at(row, to), row);
+	}
+	if (to < 0 || to >= LIBDOOR_DESCRIPTORS || getrlimit(RLIMIT_NOFILE, &limit) < 0 || (rlim_t)to >= limit.rlim_cur)
+		return bad_descriptor();
+	return copy_door_to(from, to, flags & O_CLOEXEC);
 }
 
 static bool are_the_systems(int from, int to)
@@ -159,11 +198,37 @@ EXPORT int dup3(int from, int to, int flags)
 	return from == to || (flags & ~O_CLOEXEC) || are_the_systems(from, to) ? real_dup3(from, to, flags) : copy_to(from, to, flags);
 }
 
+/* fcntl(2) */
+
+/* A stand-in is always closed by exec(2), so FD_CLOEXEC is what the program has asked for, and so is the access mode. */
+static int control_door(int fd, int command, void *argument)
+{
+	const struct stand_in it = stand_in_at(fd);
+	int found;
+
+	switch (command) {
+	case F_DUPFD:
+		return copy_above(fd, (int)(intptr_t)argument, 0);
+	case F_DUPFD_CLOEXEC:
+		return copy_above(fd, (int)(intptr_t)argument, O_CLOEXEC);
+	case F_GETFD:
+		return it.flags & O_CLOEXEC ? FD_CLOEXEC : 0;
+	case F_SETFD:
+		set_to_close(fd, (intptr_t)argument & FD_CLOEXEC);
+		return 0;
+	case F_GETFL:
+		found = real_fcntl(fd, F_GETFL, NULL);
+		return found < 0 ? found : (found & ~O_ACCMODE) | (it.flags & O_ACCMODE);
+	default:
+		return real_fcntl(fd, command, argument);
+	}
+}
+
 static int control_file(int fd, int command, void *argument)
 {
-	if ((command != F_DUPFD && command != F_DUPFD_CLOEXEC) || (!is_kept_here(fd) && !is_stand_in_here(fd)))
-		return real_fcntl(fd, command, argument);
-	return is_kept_here(fd) ? bad_descriptor() : copy_above(fd, (int)(intptr_t)argument);
+	if (is_kept_here(fd))
+		return bad_descriptor();
+	return is_stand_in_here(fd) ? control_door(fd, command, argument) : real_fcntl(fd, command, argument);
 }
 
 EXPORT int fcntl(int fd, int command, ...)

@@ -1,6 +1,7 @@
 /*
  * libdoor_descriptors.c: descriptors of the program that stand for those of the kernel. A stand-in is the writing end of a pipe whose
- * reading end doord holds, so doord sees it where one is closed without a word. It is always closed by exec(2).
+ * reading end doord holds, so doord sees it where one is closed without a word. It is always closed by exec(2), whatever the program has
+ * asked for.
  */
 #include "libdoor.h"
 
@@ -10,26 +11,43 @@
 #include <sys/syscall.h>
 #include <unistd.h>
 
-/*
- * By the program's number: below, the kernel's number and one, 0 where there is none; above, the number of the pipe, by which a descriptor
- * that was closed behind libdoor's back, and is another one now, is known.
- */
+/* A descriptor in the table: below, the kernel's number and one, 0 where there is none; then what fcntl(2) tells of it; above, the pipe. */
+enum {
+	ENTRY_ROW = 0xffff,
+	ENTRY_CLOSES = 1 << 16, /* FD_CLOEXEC, as the program has it */
+	ENTRY_MODE = 17,        /* from this bit on O_RDONLY, O_WRONLY or O_RDWR */
+	ENTRY_PIPE = 32,        /* and from this one its number, by which a descriptor that was closed behind libdoor's back is known */
+};
+
+/* By the program's number. */
 static struct {
 	_Atomic uint64_t entry[LIBDOOR_DESCRIPTORS];
 	_Atomic int end; /* all stand-ins are below */
 } own;
+
+static const struct stand_in nothing = { .row = WIRE_NO_FD };
 
 static uint64_t entry_of(int fd)
 {
 	return fd >= 0 && fd < LIBDOOR_DESCRIPTORS ? atomic_load_explicit(&own.entry[fd], memory_order_relaxed) : 0;
 }
 
-static uint32_t row_of(uint64_t entry)
+static struct stand_in read_entry(uint64_t entry)
 {
-	return entry == 0 ? WIRE_NO_FD : (uint32_t)entry - 1;
+	struct stand_in it = { .row = (uint32_t)(entry & ENTRY_ROW) - 1, .pipe = (uint32_t)(entry >> ENTRY_PIPE) };
+
+	it.flags = (int)(entry >> ENTRY_MODE & O_ACCMODE) | (entry & ENTRY_CLOSES ? O_CLOEXEC : 0);
+	return it;
 }
 
-/* By the bare system call, since the library's fstat(3) looks for a path. */
+static uint64_t entry_for(uint32_t pipe, uint32_t row, int flags)
+{
+	uint64_t mode = (uint64_t)(flags & O_ACCMODE) << ENTRY_MODE;
+
+	return (uint64_t)pipe << ENTRY_PIPE | mode | (flags & O_CLOEXEC ? ENTRY_CLOSES : 0) | (row + 1);
+}
+
+/* By the bare system call, since the library's fstat(3) tells of a door. */
 static uint32_t pipe_of(int fd)
 {
 	struct stat found;
@@ -39,7 +57,7 @@ static uint32_t pipe_of(int fd)
 
 static bool is_the_pipe(int fd, uint64_t entry)
 {
-	return pipe_of(fd) == (uint32_t)(entry >> 32);
+	return pipe_of(fd) == (uint32_t)(entry >> ENTRY_PIPE);
 }
 
 /* Whether it is in the table, though it may be another file's by now. */
@@ -48,22 +66,46 @@ bool may_be_stand_in(int fd)
 	return entry_of(fd) != 0;
 }
 
-/* What the descriptor stands for: WIRE_NO_FD where it is a file, or not open. */
-uint32_t kernel_descriptor(int fd)
+/* Whether it is one, where this is what the system says of it. */
+bool is_stand_in_found(int fd, const struct stat *found)
+{
+	uint64_t entry = entry_of(fd);
+
+	return entry != 0 && S_ISFIFO(found->st_mode) && (uint32_t)found->st_ino == (uint32_t)(entry >> ENTRY_PIPE);
+}
+
+/* What the descriptor stands for: its row is WIRE_NO_FD where it is a file, or not open. */
+struct stand_in stand_in_at(int fd)
 {
 	uint64_t entry = entry_of(fd);
 	int error = errno;
-	uint32_t row = entry != 0 && is_the_pipe(fd, entry) ? row_of(entry) : WIRE_NO_FD;
+	struct stand_in it = entry != 0 && is_the_pipe(fd, entry) ? read_entry(entry) : nothing;
 
 	errno = error;
-	return row;
+	return it;
 }
 
-static void put_entry(int fd, uint32_t row)
+/* An operand of a request. */
+void name_descriptor(struct wire_request *request, const struct stand_in *it)
+{
+	request->a = it->row;
+	request->d = it->pipe;
+}
+
+/* FD_CLOEXEC as the program wants it. The descriptor itself stays as it is. */
+void set_to_close(int fd, bool closes)
+{
+	uint64_t entry = entry_of(fd);
+
+	while (entry != 0 && !atomic_compare_exchange_weak(&own.entry[fd], &entry, (entry & ~(uint64_t)ENTRY_CLOSES) | (closes ? ENTRY_CLOSES : 0)))
+		continue;
+}
+
+static void put_entry(int fd, uint32_t row, int flags)
 {
 	int end = atomic_load(&own.end);
 
-	atomic_store(&own.entry[fd], (uint64_t)pipe_of(fd) << 32 | (row + 1));
+	atomic_store(&own.entry[fd], entry_for(pipe_of(fd), row, flags));
 	while (fd >= end && !atomic_compare_exchange_weak(&own.end, &end, fd + 1))
 		continue;
 }
@@ -74,15 +116,15 @@ bool forget_stand_in(int fd)
 }
 
 /* What the descriptor stands for, and it does not stand for it any more. Of two threads that take the same only one gets it. */
-uint32_t take_stand_in(int fd)
+struct stand_in take_stand_in(int fd)
 {
-	uint64_t entry = entry_of(fd);
+	uint64_t entry = entry_of(fd), found = entry;
 
 	if (entry == 0)
-		return WIRE_NO_FD;
+		return nothing;
 	bool is_there = is_the_pipe(fd, entry);
-	bool is_mine = atomic_compare_exchange_strong(&own.entry[fd], &entry, 0);
-	return is_there && is_mine ? row_of(entry) : WIRE_NO_FD;
+	bool is_mine = atomic_compare_exchange_strong(&own.entry[fd], &found, 0);
+	return is_there && is_mine ? read_entry(entry) : nothing;
 }
 
 /* The first stand-in from this number on, or -1. */
@@ -98,7 +140,7 @@ int next_stand_in(int from)
 
 /* making them */
 
-static void close_pipe(const int *end)
+void close_pipe(const int *end)
 {
 	int error = errno;
 
@@ -122,37 +164,45 @@ static int make_pipe(uint32_t row, int *end)
 }
 
 /* Moves the writing end to the number `fd`, whatever that was; the reading end goes. */
-static int settle_pipe(int *end, int fd, uint32_t row)
+static int settle_pipe(int *end, int fd, uint32_t row, int flags)
 {
-	if (fd >= LIBDOOR_DESCRIPTORS || real_dup3(end[1], fd, O_CLOEXEC) < 0) {
+	if (fd != end[1] && (fd >= LIBDOOR_DESCRIPTORS || real_dup3(end[1], fd, O_CLOEXEC) < 0)) {
 		if (fd >= LIBDOOR_DESCRIPTORS)
 			errno = EMFILE;
 		close_pipe(end);
 		return -1;
 	}
-	(void)syscall(SYS_close, end[1]);
-	if (fd != end[0])
-		(void)syscall(SYS_close, end[0]);
-	put_entry(fd, row);
+	for (unsigned i = 0; i < 2; i++)
+		if (end[i] != fd)
+			(void)syscall(SYS_close, end[i]);
+	put_entry(fd, row, flags);
 	return fd;
 }
 
-/* A descriptor for this one of the kernel, at the lowest number that is free: -1 and errno where there is none. */
-int new_stand_in(uint32_t row)
+/*
+ * A descriptor for this one of the kernel, at the lowest number that is free: -1 and errno where there is none. The flags are the access
+ * mode and O_CLOEXEC, as fcntl(2) then tells them.
+ */
+int new_stand_in(uint32_t row, int flags)
 {
 	int end[2];
 
-	return make_pipe(row, end) < 0 ? -1 : settle_pipe(end, end[0], row);
+	return make_pipe(row, end) < 0 ? -1 : settle_pipe(end, end[0], row, flags);
 }
 
-int new_stand_in_at(uint32_t row, int fd)
+/* At this number, by a pipe that is there: it is closed where that fails. */
+int new_stand_in_at(uint32_t row, int flags, int fd, int *end)
 {
-	int end[2];
+	struct wire_message message = { .kind = WIRE_STAND_IN, .a = row };
 
-	return make_pipe(row, end) < 0 ? -1 : settle_pipe(end, fd, row);
+	if (send_message(&message, end, 1) < 0) {
+		close_pipe(end);
+		return -1;
+	}
+	return settle_pipe(end, fd, row, flags);
 }
 
-int new_stand_in_above(uint32_t row, int least)
+int new_stand_in_above(uint32_t row, int flags, int least)
 {
 	int end[2];
 
@@ -166,7 +216,7 @@ int new_stand_in_above(uint32_t row, int least)
 		return -1;
 	}
 	if (fd >= 0)
-		put_entry(fd, row);
+		put_entry(fd, row, flags);
 	return fd;
 }
 
@@ -177,13 +227,13 @@ int new_stand_in_above(uint32_t row, int least)
 void renew_stand_ins(bool have_rows)
 {
 	for (int fd = next_stand_in(0); fd >= 0; fd = next_stand_in(fd + 1)) {
-		uint32_t row = take_stand_in(fd);
+		struct stand_in it = take_stand_in(fd);
 		int end[2];
-		if (row == WIRE_NO_FD)
+		if (it.row == WIRE_NO_FD || pipe2(end, O_CLOEXEC) < 0)
 			continue;
 		if (have_rows) {
-			(void)new_stand_in_at(row, fd);
-		} else if (pipe2(end, O_CLOEXEC) == 0) {
+			(void)new_stand_in_at(it.row, it.flags, fd, end);
+		} else {
 			(void)real_dup3(end[1], fd, O_CLOEXEC);
 			close_pipe(end);
 		}

@@ -2,6 +2,7 @@
 #include "libdoor.h"
 
 #include <errno.h>
+#include <fcntl.h>
 #include <string.h>
 #include <sys/mman.h>
 #include <sys/syscall.h>
@@ -104,7 +105,7 @@ EXPORT int door_create(door_server_procedure_t *procedure, void *cookie, uint_t 
 	atomic_store_explicit(&door->is_there, true, memory_order_release);
 	if (ask_create(door, number, attributes, &row) < 0)
 		return -1;
-	int fd = new_stand_in(row), error = errno;
+	int fd = new_stand_in(row, O_RDWR | O_CLOEXEC), error = errno;
 	if (fd < 0) {
 		(void)ask_about(KERNEL_OP_CLOSE, row);
 		errno = error;
@@ -118,7 +119,9 @@ EXPORT int door_create(door_server_procedure_t *procedure, void *cookie, uint_t 
 /* door_revoke(3C) closes the descriptor as well. */
 EXPORT int door_revoke(int fd)
 {
-	if (ask_about(KERNEL_OP_REVOKE, kernel_descriptor(fd)) < 0)
+	const struct stand_in it = stand_in_at(fd);
+
+	if (ask_about_descriptor(KERNEL_OP_REVOKE, &it) < 0)
 		return -1;
 	(void)forget_stand_in(fd);
 	(void)syscall(SYS_close, fd);
@@ -127,7 +130,9 @@ EXPORT int door_revoke(int fd)
 
 EXPORT int door_bind(int fd)
 {
-	return ask_about(KERNEL_OP_BIND, kernel_descriptor(fd));
+	const struct stand_in it = stand_in_at(fd);
+
+	return ask_about_descriptor(KERNEL_OP_BIND, &it);
 }
 
 EXPORT int door_unbind(void)
@@ -138,10 +143,10 @@ EXPORT int door_unbind(void)
 /* door_info(3C): a file is no door, and nobody is asked about it. */
 EXPORT int door_info(int fd, door_info_t *info)
 {
-	uint32_t row = kernel_descriptor(fd);
+	const struct stand_in it = stand_in_at(fd);
 	struct ask ask;
 
-	if (fd != DOOR_QUERY && row == WIRE_NO_FD) {
+	if (fd != DOOR_QUERY && it.row == WIRE_NO_FD) {
 		errno = EBADF;
 		return -1;
 	}
@@ -151,7 +156,8 @@ EXPORT int door_info(int fd, door_info_t *info)
 	}
 	if (begin_ask(&ask, fd == DOOR_QUERY ? KERNEL_OP_INFO_QUERY : KERNEL_OP_INFO) < 0)
 		return -1;
-	ask.request->a = fd == DOOR_QUERY ? 0 : row;
+	if (fd != DOOR_QUERY)
+		name_descriptor(ask.request, &it);
 	if (ask_simply(&ask) < 0)
 		return -1;
 	memset(info, 0, sizeof *info);
@@ -184,12 +190,13 @@ static bool kernel_parameter(int parameter, uint32_t *kernels)
 
 static int ask_parameter(uint32_t op, int fd, int parameter, uint64_t *value)
 {
+	const struct stand_in it = stand_in_at(fd);
 	struct ask ask;
 	uint32_t number;
 
 	if (!kernel_parameter(parameter, &number) || begin_ask(&ask, op) < 0)
 		return -1;
-	ask.request->a = kernel_descriptor(fd);
+	name_descriptor(ask.request, &it);
 	ask.request->b = number;
 	ask.request->c = *value;
 	if (ask_simply(&ask) < 0)

@@ -10,12 +10,12 @@
 /* An item of the message, and `file`, where an ordinary file goes with it. */
 static uint64_t item_of(int fd, bool is_released, int *file)
 {
-	uint32_t row = kernel_descriptor(fd);
+	const struct stand_in it = stand_in_at(fd);
 	uint64_t released = is_released ? WIRE_RELEASE : 0;
 
 	*file = -1;
-	if (row != WIRE_NO_FD)
-		return row | released;
+	if (it.row != WIRE_NO_FD)
+		return it.row | released | (uint64_t)it.pipe << WIRE_PIPE;
 	if (is_kept(fd) || real_fcntl(fd, F_GETFD, NULL) < 0)
 		return WIRE_NO_FD;
 	*file = fd;
@@ -135,7 +135,7 @@ int place_came(const struct came *came, door_desc_t *desc)
 
 	for (unsigned i = 0; i < came->count; i++) {
 		const struct wire_passed *passed = &came->passed[i];
-		int fd = passed->fd == WIRE_NO_FD ? came->file[files++] : new_stand_in(passed->fd);
+		int fd = passed->fd == WIRE_NO_FD ? came->file[files++] : new_stand_in(passed->fd, O_RDWR);
 		if (fd < 0) {
 			drop_came(came, desc, i);
 			errno = EMFILE;

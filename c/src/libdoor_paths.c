@@ -85,7 +85,7 @@ static bool is_attached(const struct wire_table *table, const struct stat *found
 
 /* open(2) */
 
-static int ask_open(const struct stat *found)
+static int ask_open(const struct stat *found, int flags)
 {
 	struct ask ask;
 
@@ -96,7 +96,7 @@ static int ask_open(const struct stat *found)
 	if (ask_simply(&ask) < 0)
 		return errno == ENOENT ? NOT_ATTACHED : -1;
 	uint32_t row = ask.a;
-	int fd = new_stand_in(row), error = errno;
+	int fd = new_stand_in(row, flags), error = errno;
 	if (fd < 0)
 		(void)ask_about(KERNEL_OP_CLOSE, row);
 	errno = error;
@@ -123,7 +123,7 @@ static int open_door(int directory, const char *path, int flags)
 	}
 	if (faccessat(directory, path, wanted[flags & O_ACCMODE], AT_EACCESS) < 0)
 		return -1;
-	return ask_open(&found);
+	return ask_open(&found, flags);
 }
 
 static int open_at(int directory, const char *path, int flags, mode_t mode)
@@ -251,13 +251,13 @@ static int see_owner(const struct stat *found)
 	return -1;
 }
 
-static int ask_attach(uint32_t row, int file, const char *text)
+static int ask_attach(const struct stand_in *it, int file, const char *text)
 {
 	struct ask ask;
 
 	if (begin_ask(&ask, KERNEL_OP_ATTACH) < 0)
 		return -1;
-	ask.request->a = row;
+	name_descriptor(ask.request, it);
 	ask.request->files = 1;
 	if (put_text(&ask, text) < 0 || send_files(ask.index, ask.number, &file, 1) < 0) {
 		give_up_ask(&ask);
@@ -266,28 +266,28 @@ static int ask_attach(uint32_t row, int file, const char *text)
 	return ask_simply(&ask);
 }
 
-static int attach_at(uint32_t row, int file, const char *path)
+static int attach_at(const struct stand_in *it, int file, const char *path)
 {
 	char text[PATH_MAX];
 	struct stat found;
 
 	if (fstat(file, &found) < 0 || see_owner(&found) < 0 || faccessat(AT_FDCWD, path, W_OK, AT_EACCESS) < 0 || path_of(file, path, text) < 0)
 		return -1;
-	return ask_attach(row, file, text);
+	return ask_attach(it, file, text);
 }
 
 EXPORT int fattach(int fd, const char *path)
 {
-	uint32_t row = kernel_descriptor(fd);
+	const struct stand_in it = stand_in_at(fd);
 
-	if (row == WIRE_NO_FD) {
+	if (it.row == WIRE_NO_FD) {
 		errno = real_fcntl(fd, F_GETFD, NULL) < 0 ? EBADF : EINVAL;
 		return -1;
 	}
 	int file = real_openat(AT_FDCWD, path, O_PATH | O_CLOEXEC, 0);
 	if (file < 0)
 		return -1;
-	int result = attach_at(row, file, path), error = errno;
+	int result = attach_at(&it, file, path), error = errno;
 	(void)syscall(SYS_close, file);
 	errno = error;
 	return result;

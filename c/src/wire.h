@@ -61,8 +61,11 @@ enum {
  *   attach     a, one file with the control socket: the path, opened with O_PATH; data: its text, absolute
  *   detach, open, await   c device, d inode of the file
  *   fork       the child may be made; the reply's a is its token, 0 where it has no rows and is nobody yet
- * An item is a descriptor of the kernel with WIRE_RELEASE where it is released, or WIRE_FILE for an ordinary file, with WIRE_RELEASE where
- * the program releases it. Files come by the control socket: the n-th of these items with the n-th file of the message.
+ * Where a is a descriptor, d is the number of the pipe that stands for it: another thread may have closed it meanwhile, and the kernel's
+ * number may be another one's. Where it does not fit, a is no descriptor; 0 fits always.
+ * An item is a descriptor of the kernel with WIRE_RELEASE where it is released, and the pipe's number from the bit WIRE_PIPE on; or WIRE_FILE
+ * for an ordinary file, with WIRE_RELEASE where the program releases it. Files come by the control socket: the n-th of these items with the
+ * n-th file of the message.
  *
  * A call or return of which no item has WIRE_RELEASE is answered once, at its end. Where one has, and it is not refused, the first answer is
  * the kernel's wait with WIRE_TAKEN: the program closes what it released, so that nobody waits for its copies, and asks WIRE_WAIT, whose
@@ -70,6 +73,7 @@ enum {
  */
 #define WIRE_RELEASE (1ull << 32)
 #define WIRE_FILE (1ull << 33)
+#define WIRE_PIPE 34
 
 struct wire_request {
 	uint32_t op, flags;

@@ -100,20 +100,34 @@ static void close_all(void)
 	closefrom(3);
 }
 
-static void last_one(void)
+/* Each of them passes the library by, but the first. */
+static int close_by(const char *how, int door)
+{
+	if (strcmp(how, "close_range") == 0)
+		return close_range((unsigned)door, (unsigned)door, 0);
+	if (strcmp(how, "fclose") == 0)
+		return fclose(fdopen(door, "w"));
+	if (strcmp(how, "close") == 0)
+		return (int)syscall(SYS_close, door);
+	if (strcmp(how, "range") == 0)
+		return (int)syscall(SYS_close_range, (unsigned)door, (unsigned)door, 0u);
+	return syscall(SYS_dup3, STDIN_FILENO, door, 0) == door && close(door) == 0 ? 0 : -1;
+}
+
+static void last_one(const char *how)
 {
 	int door = open("a", O_RDWR);
 
 	touch("opened");
 	wait_for("detached");
-	check(close_range((unsigned)door, (unsigned)door, 0) == 0);
+	check(close_by(how, door) == 0);
 	wait_for("told");
 }
 
 int main(int argc, char **argv)
 {
-	if (argc == 2 && strcmp(argv[1], "unref") == 0) {
-		last_one();
+	if (argc == 3 && strcmp(argv[1], "unref") == 0) {
+		last_one(argv[2]);
 		return 0;
 	}
 	if (argc == 2 && strcmp(argv[1], "all") == 0) {

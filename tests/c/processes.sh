@@ -76,12 +76,6 @@ case_closes() {
     gives 'done'
 }
 
-case_closed_behind_its_back() {
-    run 'up serve -m a - w; doorwait w; closes unref & closes=$!; held opened; ask w "detach a"; touch detached; seen "enter n1"; touch told; wait $closes
-        ask w "echo x"'
-    gives_sorted 'a unreferenced' 'detach a: ok' 'echo x: x'
-}
-
 case_closes_all() {
     run 'up serve w; doorwait w; closes all; [ $? -ne 0 ] && echo ended; ask w "echo x"'
     gives ended 'echo x: x'
