@@ -37,6 +37,14 @@ int real_dup(int fd);
 int real_dup2(int from, int to);
 int real_dup3(int from, int to, int flags);
 int real_fcntl(int fd, int command, void *argument);
+int real_fstat(int fd, struct stat *found);
+int real_fstatat(int directory, const char *path, struct stat *found, int flags);
+int real_statx(int directory, const char *path, int flags, unsigned mask, struct statx *found);
+int real_unlink(const char *path);
+int real_unlinkat(int directory, const char *path, int flags);
+int real_remove(const char *path);
+int real_renameat(int from_directory, const char *from, int to_directory, const char *to);
+int real_renameat2(int from_directory, const char *from, int to_directory, const char *to, unsigned flags);
 pid_t real_fork(void);
 int real_sigaction(int number, const struct sigaction *action, struct sigaction *old);
 
@@ -217,6 +225,10 @@ void renew_stand_ins(bool have_rows);
 int next_stand_in(int from);
 
 /* libdoor_paths.c */
+
+/* What stands in the table of a file to which a door is attached; else NULL. */
+const struct wire_path *attached_to(const struct stat *found);
+bool are_any_attached(void);
 EXPORT int libdoor_await(const char *path, long most);
 
 /* libdoor_serve.c: invocations */

@@ -47,7 +47,7 @@ static const struct wire_table *map_table(void)
 	int file = *own.path ? real_openat(AT_FDCWD, own.path, O_RDONLY | O_CLOEXEC, 0) : -1;
 	if (file < 0)
 		return &no_table;
-	if (fstat(file, &found) == 0 && found.st_size >= (off_t)sizeof(struct wire_table))
+	if (real_fstat(file, &found) == 0 && found.st_size >= (off_t)sizeof(struct wire_table))
 		table = mmap(NULL, sizeof(struct wire_table), PROT_READ, MAP_SHARED, file, 0);
 	(void)syscall(SYS_close, file);
 	return table == MAP_FAILED ? &no_table : table;
@@ -67,8 +67,14 @@ static const struct wire_table *the_table(void)
 	return none;
 }
 
-static const struct wire_path *find_attached(const struct wire_table *table, const struct stat *found)
+bool are_any_attached(void)
 {
+	return atomic_load_explicit(&the_table()->attached, memory_order_relaxed) > 0;
+}
+
+const struct wire_path *attached_to(const struct stat *found)
+{
+	const struct wire_table *table = the_table();
 	uint32_t count = atomic_load(&table->count);
 
 	for (uint32_t i = 0; i < count && i < WIRE_PATHS; i++)
@@ -76,11 +82,6 @@ static const struct wire_path *find_attached(const struct wire_table *table, con
 			&& atomic_load(&table->path[i].device) == found->st_dev)
 			return &table->path[i];
 	return NULL;
-}
-
-static bool is_attached(const struct wire_table *table, const struct stat *found)
-{
-	return find_attached(table, found) != NULL;
 }
 
 /* open(2) */
@@ -107,13 +108,12 @@ static int ask_open(const struct stat *found, int flags)
 static int open_door(int directory, const char *path, int flags)
 {
 	static const int wanted[] = { [O_RDONLY] = R_OK, [O_WRONLY] = W_OK, [O_RDWR] = R_OK | W_OK, [O_ACCMODE] = R_OK | W_OK };
-	const struct wire_table *table = the_table();
 	struct stat found;
 	int error = errno;
 
-	if (atomic_load_explicit(&table->attached, memory_order_relaxed) == 0 || (flags & (O_PATH | O_DIRECTORY)))
+	if (!are_any_attached() || (flags & (O_PATH | O_DIRECTORY)))
 		return NOT_ATTACHED;
-	if (fstatat(directory, path, &found, flags & O_NOFOLLOW ? AT_SYMLINK_NOFOLLOW : 0) < 0 || !is_attached(table, &found)) {
+	if (real_fstatat(directory, path, &found, flags & O_NOFOLLOW ? AT_SYMLINK_NOFOLLOW : 0) < 0 || !attached_to(&found)) {
 		errno = error;
 		return NOT_ATTACHED;
 	}
@@ -216,16 +216,22 @@ EXPORT int __openat64_2(int directory, const char *path, int flags)
 
 /* fattach(3C), fdetach(3C) */
 
-/* The absolute path of an open file, of at most PATH_MAX bytes with its end. */
+/* The absolute path of an open file, or where that has no room the path as it was given: at most PATH_MAX bytes with its end. */
 static int path_of(int file, const char *path, char *text)
 {
 	char link[64];
 
 	snprintf(link, sizeof link, "/proc/self/fd/%d", file);
 	ssize_t size = readlink(link, text, PATH_MAX - 1);
-	if (size <= 0)
-		return realpath(path, text) ? 0 : -1;
-	text[size] = 0;
+	if (size > 0) {
+		text[size] = 0;
+		return 0;
+	}
+	if (realpath(path, text))
+		return 0;
+	if (errno != ENAMETOOLONG || strlen(path) >= PATH_MAX)
+		return -1;
+	strcpy(text, path);
 	return 0;
 }
 
@@ -266,12 +272,19 @@ static int ask_attach(const struct stand_in *it, int file, const char *text)
 	return ask_simply(&ask);
 }
 
+/* A folder gets no door: what lies in it would be out of reach. */
 static int attach_at(const struct stand_in *it, int file, const char *path)
 {
 	char text[PATH_MAX];
 	struct stat found;
 
-	if (fstat(file, &found) < 0 || see_owner(&found) < 0 || faccessat(AT_FDCWD, path, W_OK, AT_EACCESS) < 0 || path_of(file, path, text) < 0)
+	if (real_fstat(file, &found) < 0)
+		return -1;
+	if (S_ISDIR(found.st_mode)) {
+		errno = EINVAL;
+		return -1;
+	}
+	if (see_owner(&found) < 0 || faccessat(AT_FDCWD, path, W_OK, AT_EACCESS) < 0 || path_of(file, path, text) < 0)
 		return -1;
 	return ask_attach(it, file, text);
 }
@@ -298,9 +311,9 @@ EXPORT int fdetach(const char *path)
 	struct stat found;
 	struct ask ask;
 
-	if (stat(path, &found) < 0)
+	if (real_fstatat(AT_FDCWD, path, &found, 0) < 0)
 		return -1;
-	if (!is_attached(the_table(), &found)) {
+	if (!attached_to(&found)) {
 		errno = EINVAL;
 		return -1;
 	}
@@ -339,18 +352,17 @@ static int ask_await(const struct stat *found)
 int libdoor_await(const char *path, long most)
 {
 	static const struct timespec between = { .tv_nsec = 10000000 };
-	const struct wire_table *table = the_table();
 	struct stat found;
 
 	for (long waited = 0;; waited += 10) {
-		const struct wire_path *attached = stat(path, &found) == 0 ? find_attached(table, &found) : NULL;
+		const struct wire_path *attached = real_fstatat(AT_FDCWD, path, &found, 0) == 0 ? attached_to(&found) : NULL;
 		if (attached && atomic_load(&attached->served)) {
 			int result = ask_await(&found);
 			/* doord may have seen only now that the server has ended */
 			if (result == 0 ? atomic_load(&attached->served) : errno != ENOENT)
 				return result;
 		}
-		if (table == &no_table)
+		if (the_table() == &no_table)
 			return open_connection();
 		if (most >= 0 && waited >= most) {
 			errno = ETIMEDOUT;

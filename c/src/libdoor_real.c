@@ -13,6 +13,14 @@ enum real {
 	REAL_DUP2,
 	REAL_DUP3,
 	REAL_FCNTL,
+	REAL_FSTAT,
+	REAL_FSTATAT,
+	REAL_STATX,
+	REAL_UNLINK,
+	REAL_UNLINKAT,
+	REAL_REMOVE,
+	REAL_RENAMEAT,
+	REAL_RENAMEAT2,
 	REAL_FORK,
 	REAL_SIGACTION,
 	REALS,
@@ -32,6 +40,14 @@ static const char *const name_of[REALS] = {
 	[REAL_DUP2] = "dup2",
 	[REAL_DUP3] = "dup3",
 	[REAL_FCNTL] = "fcntl",
+	[REAL_FSTAT] = "fstat",
+	[REAL_FSTATAT] = "fstatat",
+	[REAL_STATX] = "statx",
+	[REAL_UNLINK] = "unlink",
+	[REAL_UNLINKAT] = "unlinkat",
+	[REAL_REMOVE] = "remove",
+	[REAL_RENAMEAT] = "renameat",
+	[REAL_RENAMEAT2] = "renameat2",
 	[REAL_FORK] = "fork",
 	[REAL_SIGACTION] = "sigaction",
 };
@@ -111,6 +127,62 @@ int real_fcntl(int fd, int command, void *argument)
 	int (*function)(int, int, ...);
 
 	return find(REAL_FCNTL, &function) ? function(fd, command, argument) : -1;
+}
+
+int real_fstat(int fd, struct stat *found)
+{
+	int (*function)(int, struct stat *);
+
+	return find(REAL_FSTAT, &function) ? function(fd, found) : -1;
+}
+
+int real_fstatat(int directory, const char *path, struct stat *found, int flags)
+{
+	int (*function)(int, const char *, struct stat *, int);
+
+	return find(REAL_FSTATAT, &function) ? function(directory, path, found, flags) : -1;
+}
+
+int real_statx(int directory, const char *path, int flags, unsigned mask, struct statx *found)
+{
+	int (*function)(int, const char *, int, unsigned, struct statx *);
+
+	return find(REAL_STATX, &function) ? function(directory, path, flags, mask, found) : -1;
+}
+
+int real_unlink(const char *path)
+{
+	int (*function)(const char *);
+
+	return find(REAL_UNLINK, &function) ? function(path) : -1;
+}
+
+int real_unlinkat(int directory, const char *path, int flags)
+{
+	int (*function)(int, const char *, int);
+
+	return find(REAL_UNLINKAT, &function) ? function(directory, path, flags) : -1;
+}
+
+int real_remove(const char *path)
+{
+	int (*function)(const char *);
+
+	return find(REAL_REMOVE, &function) ? function(path) : -1;
+}
+
+int real_renameat(int from_directory, const char *from, int to_directory, const char *to)
+{
+	int (*function)(int, const char *, int, const char *);
+
+	return find(REAL_RENAMEAT, &function) ? function(from_directory, from, to_directory, to) : -1;
+}
+
+int real_renameat2(int from_directory, const char *from, int to_directory, const char *to, unsigned flags)
+{
+	int (*function)(int, const char *, int, const char *, unsigned);
+
+	return find(REAL_RENAMEAT2, &function) ? function(from_directory, from, to_directory, to, flags) : -1;
 }
 
 pid_t real_fork(void)

@@ -121,7 +121,7 @@ size_t name_procedure(door_server_procedure_t *procedure, char *name, size_t roo
 	int file = place.is_found ? real_openat(AT_FDCWD, place.path, O_RDONLY | O_CLOEXEC, 0) : -1;
 	if (file < 0)
 		return 0;
-	if (fstat(file, &found) == 0 && found.st_size > 0) {
+	if (real_fstat(file, &found) == 0 && found.st_size > 0) {
 		void *at = mmap(NULL, (size_t)found.st_size, PROT_READ, MAP_PRIVATE, file, 0);
 		if (at != MAP_FAILED) {
 			const struct image image = { at, (size_t)found.st_size };

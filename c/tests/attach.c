@@ -1,6 +1,8 @@
 /* attach: fattach(3C) and fdetach(3C) by all that can go wrong, and by paths of all kinds. */
 #include "test.h"
 
+#include <sys/syscall.h>
+
 static int door;
 static char answer[64];
 
@@ -55,14 +57,17 @@ static void errors(void)
 	close(file);
 }
 
-/* The file of an attached path is taken away, and another is made under its name: two doors have been attached under one text. */
+/*
+ * The file of an attached path is taken away, past the library as a static program would do it, and another is made under its name: two doors
+ * have been attached under one text.
+ */
 static void same_name(int second)
 {
 	int kept, file;
 	char byte;
 
 	touch("name");
-	check(fattach(door, "name") == 0 && link("name", "old") == 0 && unlink("name") == 0);
+	check(fattach(door, "name") == 0 && link("name", "old") == 0 && syscall(SYS_unlink, "name") == 0);
 	file = open("name", O_CREAT | O_RDWR, 0644);
 	check(write(file, "x", 1) == 1);
 	check(pread(file, &byte, 1, 0) == 1 && byte == 'x');
@@ -80,7 +85,7 @@ static void same_name(int second)
 		touch("name");
 	}
 	check(rename("name", "renamed") == 0);
-	check(fattach(door, "renamed") == 0 && rename("renamed", "name") == 0 && answers("name", "first"));
+	check(fattach(door, "renamed") == 0 && syscall(SYS_rename, "renamed", "name") == 0 && answers("name", "first"));
 	fails(fdetach("renamed"), ENOENT);
 	check(fdetach("name") == 0);
 }

@@ -30,7 +30,7 @@ static inline const char *error_name(int error)
 		{ EBUSY, "EBUSY" }, { EPERM, "EPERM" }, { EACCES, "EACCES" }, { E2BIG, "E2BIG" }, { ENOBUFS, "ENOBUFS" },
 		{ ENFILE, "ENFILE" }, { EMFILE, "EMFILE" }, { ENOTSUP, "ENOTSUP" }, { EEXIST, "EEXIST" }, { EFAULT, "EFAULT" },
 		{ EOVERFLOW, "EOVERFLOW" }, { ENOMEM, "ENOMEM" }, { ELOOP, "ELOOP" }, { ENOTDIR, "ENOTDIR" }, { EISDIR, "EISDIR" },
-		{ ENAMETOOLONG, "ENAMETOOLONG" }, { ECHILD, "ECHILD" }, { EPIPE, "EPIPE" },
+		{ ENAMETOOLONG, "ENAMETOOLONG" }, { ECHILD, "ECHILD" }, { EPIPE, "EPIPE" }, { ENOTEMPTY, "ENOTEMPTY" },
 	};
 	size_t i;
 

@@ -1,6 +1,23 @@
 # Descriptors of doors: what is told of them, copies, closes, and those that many threads use.
 # Read by tests/c.sh, which has the words that the cases use.
 
+case_stats() {
+    run stats
+    gives 'done'
+    # programs of other compilers and with large files
+    # shellcheck disable=SC2086 # options are to be several
+    $cc $strict -D_FILE_OFFSET_BITS=64 -O2 -Ic/include -o "$bin/stats_large" c/tests/stats.c -L"$out" -ldoor -pthread >"$work/made" 2>&1 ||
+        wrong "-D_FILE_OFFSET_BITS=64" "a program" "$(cat "$work/made")"
+    run stats_large
+    gives 'done'
+}
+
+# the system's own tools see a door, too
+case_tools_see_doors() {
+    run 'echo text >w; up serve w; doorwait w; [ -e w ] && echo there; [ -f w ] || echo "no file"; stat -c %f w; ask w "detach w"; [ -f w ] && echo file; cat w'
+    gives there 'no file' "$(printf '%x' $((0xd000 + 0644)))" 'detach w: ok' file text
+}
+
 case_copies() {
     run 'up serve w x; doorwait x; copies'
     gives 'done'

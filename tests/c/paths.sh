@@ -27,6 +27,39 @@ case_detach_by_another() {
     gives_sorted 'echo x: x' 'detach w: ok' 'echo y: y' 'echo z: EBADF'
 }
 
+case_places() {
+    run places
+    gives 'done'
+}
+
+case_another_root() {
+    [ "$(id -u)" -eq 0 ] || return 0
+    run 'up serve w; doorwait w; mkdir root; places chroot & held root/up; ask root/door x; touch root/end; wait $!; ask w "echo y"; places late'
+    gives 'x: door' 'done' 'echo y: y' 'done'
+    says 'libdoor: doord has ended, or is out of reach for this user'
+}
+
+case_busy() {
+    run busy
+    gives 'done'
+}
+
+# the system's own tools meet it, too
+case_tools_meet_busy_files() {
+    run 'up serve w; doorwait w; rm -f w; mv w x; echo new >new; mv new w; mkdir folder; mv w folder; ls; ask w "echo x" "detach w"; mv w x; rm x; ls'
+    gives folder new w 'echo x: x' 'detach w: ok' folder new
+    says_like '(rm|mv): .*[Bb]usy' 4
+}
+
+# a new server comes where one was: it detaches the door that is dead, or takes the file away with it
+case_servers_one_after_the_other() {
+    run 'echo text >w; up serve other; serve w & pid=$!; doorwait other; doorwait w; ask w "echo a"; ask -k go w "echo b" & asks=$!; seen "return .b."; kill -9 $pid; wait $pid 2>/dev/null; seen "kill serve"
+        ask w "echo d"; serve w; echo "status $?"; ask other "detach w" "detach w"; cat w; up serve w; doorwait w; ask w "echo e"; touch go; wait $asks'
+    gives_sorted 'echo a: a' 'echo b: b' 'echo d: EBADF' 'fattach: EBUSY' 'status 3' 'detach w: ok' 'detach w: EINVAL' text 'echo e: e'
+    run 'serve w & pid=$!; doorwait w; kill $pid; wait $pid 2>/dev/null; seen "kill serve"; ask w "echo d"; rm w; ask w; up serve w; doorwait w; ask w "echo e"'
+    gives 'echo d: EBADF' 'w: ENOENT' 'echo e: e'
+}
+
 case_doorwait() {
     run 'doorwait w & waits=$!; doorwait ./w & again=$!; doorwait link & link=$!; sleep 0.2; up serve w; wait $waits; echo $?
         wait $again; echo $?; doorwait "$PWD/w"; echo $?
