@@ -128,6 +128,7 @@ struct thread {
 	siginfo_t signal;
 	uint64_t mask_put_off;
 	uintptr_t handler;         /* the frame from which the outermost handler runs, or 0 */
+	uintptr_t stack, stack_end; /* of handlers, sigaltstack(2), as that handler began */
 	struct service *service;   /* where its invocations begin, at this place; NULL where it has none */
 	jmp_buf place;
 	bool is_of_library;        /* it waits for calls with all signals kept off, and has this mask in a procedure */
@@ -151,6 +152,8 @@ void give_slot_back(uint32_t index);
 void have_slot(uint32_t index);
 void forget_threads(void);
 bool is_in_handler(void);
+bool is_program_there(void);
+bool is_on_stack_of_handlers(uintptr_t address);
 bool is_in_program(void);
 
 /* libdoor_ask.c: a request and its answer */
@@ -177,6 +180,7 @@ void give_up_ask(struct ask *ask);
 int wait_answer(struct ask *ask, enum at at);
 int wait_on(struct ask *ask, enum at at);
 void resume_ask(struct ask *ask);
+void rouse(uint32_t index);
 void end_ask(struct ask *ask);
 int ask_simply(struct ask *ask);
 int ask_about(uint32_t op, uint32_t a);
@@ -233,6 +237,7 @@ EXPORT int libdoor_await(const char *path, long most);
 
 /* libdoor_serve.c: invocations */
 int serve_on(void);
+void let_signals_in(void);
 
 /* libdoor_servers.c: server threads */
 void make_servers(void);

@@ -33,7 +33,7 @@ static void keep_signals_off(void)
 
 static void let_signals_in(void)
 {
-	if (!thread.is_of_library || (~thread.mask & SIGNALS_ALL) == 0)
+	if (!thread.is_of_library || thread.is_unmasked || (~thread.mask & SIGNALS_ALL) == 0)
 		return;
 	thread.is_unmasked = true;
 	(void)set_mask(thread.mask);
@@ -140,7 +140,10 @@ int serve_on(void)
 /* Whether the thread's place is there: it is not where the program has jumped out of the frame that had it. */
 static bool has_place(void)
 {
-	return thread.service && (uintptr_t)__builtin_frame_address(0) < (uintptr_t)thread.service;
+	uintptr_t here = (uintptr_t)__builtin_frame_address(0);
+	bool is_elsewhere = is_in_handler() && is_on_stack_of_handlers(here);
+
+	return thread.service && (is_elsewhere || here < (uintptr_t)thread.service);
 }
 
 /* door_return(3C) comes back only where it failed. */

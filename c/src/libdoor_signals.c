@@ -10,7 +10,9 @@
 
 #include <errno.h>
 #include <string.h>
+#include <sys/syscall.h>
 #include <ucontext.h>
+#include <unistd.h>
 
 enum { SIGNALS = 65 };
 
@@ -80,6 +82,23 @@ static void put_off(int number, const siginfo_t *info, ucontext_t *interrupted)
 	thread.put_off = number;
 }
 
+/* Once more to this thread, with what came with it: the system then does what the program has set for it. */
+static bool send_again(int number, const siginfo_t *info)
+{
+	return syscall(SYS_rt_tgsigqueueinfo, getpid(), (pid_t)syscall(SYS_gettid), number, info) == 0;
+}
+
+/* One is put off already, and this one, sent by kill(2), is such that a fault makes too, which are let in: it waits in the system. */
+static void put_back(int number, const siginfo_t *info, ucontext_t *interrupted)
+{
+	uint64_t mask;
+
+	memcpy(&mask, &interrupted->uc_sigmask, sizeof mask);
+	mask |= SIGNAL_BIT(number);
+	memcpy(&interrupted->uc_sigmask, &mask, sizeof mask);
+	(void)send_again(number, info);
+}
+
 /* running */
 
 static void call_handler(const struct action *action, int number, siginfo_t *info, void *context)
@@ -96,6 +115,14 @@ static void call_handler(const struct action *action, int number, siginfo_t *inf
 		handler.plain(number);
 }
 
+/* Where it runs, so that is_in_handler can tell. */
+static void begin_handler(const ucontext_t *interrupted)
+{
+	thread.stack = (uintptr_t)interrupted->uc_stack.ss_sp;
+	thread.stack_end = thread.stack + interrupted->uc_stack.ss_size;
+	thread.handler = (uintptr_t)__builtin_frame_address(0);
+}
+
 /* The program's handler, with the mask that it asked for. */
 static void run_handler(int number, siginfo_t *info, void *context)
 {
@@ -105,14 +132,10 @@ static void run_handler(int number, siginfo_t *info, void *context)
 
 	if (action.handler == (uintptr_t)SIG_DFL || action.handler == (uintptr_t)SIG_IGN)
 		return;
-	if (action.flags & (int)SA_RESETHAND) {
-		struct sigaction none = { .sa_handler = SIG_DFL };
-		(void)real_sigaction(number, &none, NULL);
-	}
 	memcpy(&mask, &((ucontext_t *)context)->uc_sigmask, sizeof mask);
 	mask |= action.mask | (action.flags & SA_NODEFER ? 0 : SIGNAL_BIT(number));
 	if (is_outermost)
-		thread.handler = (uintptr_t)__builtin_frame_address(0);
+		begin_handler(context);
 	(void)set_mask(mask);
 	call_handler(&action, number, info, context);
 	if (is_outermost)
@@ -127,8 +150,8 @@ static void wrapper(int number, siginfo_t *info, void *context)
 	uint32_t generation = atomic_load(&connection.generation);
 	int error = errno;
 
-	if (at == AT_REQUEST && !is_fault(number, info) && !thread.put_off) {
-		put_off(number, info, context);
+	if (at == AT_REQUEST && !is_fault(number, info)) {
+		(thread.put_off ? put_back : put_off)(number, info, context);
 		return;
 	}
 	if (at == AT_CALL && !ask->is_kept)
@@ -148,7 +171,17 @@ static void wrapper(int number, siginfo_t *info, void *context)
 static void look_around(ucontext_t *context, uint64_t mask)
 {
 	(void)getcontext(context);
+	memset(&context->uc_stack, 0, sizeof context->uc_stack);
 	memcpy(&context->uc_sigmask, &mask, sizeof mask);
+}
+
+/*
+ * Whether its handler has asked for a stack, to which only the system changes. Those from SIGRTMIN on would lose their order, and one with
+ * SA_RESETHAND is not set any more.
+ */
+static bool wants_stack(int number)
+{
+	return (read_entry(number).flags & (int)(SA_ONSTACK | SA_RESETHAND)) == SA_ONSTACK && number < SIGRTMIN;
 }
 
 /* It runs from here, before any that waits in the system, so that those of one number come in their order. */
@@ -161,9 +194,12 @@ void run_put_off(void)
 
 	(void)set_mask(SIGNALS_ALL);
 	thread.put_off = 0;
-	look_around(&context, thread.mask_put_off);
-	wrapper(number, &info, &context);
-	memcpy(&mask, &context.uc_sigmask, sizeof mask);
+	mask = thread.mask_put_off;
+	if (!wants_stack(number) || !send_again(number, &info)) {
+		look_around(&context, mask);
+		wrapper(number, &info, &context);
+		memcpy(&mask, &context.uc_sigmask, sizeof mask);
+	}
 	(void)set_mask(mask);
 	errno = error;
 }
@@ -202,7 +238,7 @@ static int set_action(int number, const struct sigaction *given, struct sigactio
 
 	if (is_own(given)) {
 		wrapped.sa_sigaction = wrapper;
-		wrapped.sa_flags = (given->sa_flags | SA_SIGINFO) & ~(int)(SA_RESETHAND | SA_NODEFER);
+		wrapped.sa_flags = (given->sa_flags | SA_SIGINFO) & ~(int)SA_NODEFER;
 		sigfillset(&wrapped.sa_mask);
 		write_entry(number, &action);
 	}

@@ -155,13 +155,23 @@ void forget_threads(void)
 	set_at(AT_PROGRAM);
 }
 
-/*
- * Whether the thread runs a handler of signals now. One that was left by a jump left its frame behind: what runs then lies further up the
- * stack.
- */
+bool is_on_stack_of_handlers(uintptr_t address)
+{
+	return address >= thread.stack && address < thread.stack_end;
+}
+
+/* One that was left by a jump left its frame behind: what runs then lies further up the stack, or not on that of handlers any more. */
+static bool is_left(uintptr_t handler, uintptr_t here)
+{
+	bool has_own = is_on_stack_of_handlers(handler), is_there = is_on_stack_of_handlers(here);
+
+	return has_own == is_there ? here > handler : has_own;
+}
+
+/* Whether the thread runs a handler of signals now. */
 bool is_in_handler(void)
 {
-	if (thread.handler != 0 && (uintptr_t)__builtin_frame_address(0) > thread.handler)
+	if (thread.handler != 0 && is_left(thread.handler, (uintptr_t)__builtin_frame_address(0)))
 		thread.handler = 0;
 	return thread.handler != 0;
 }
