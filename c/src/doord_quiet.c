@@ -67,6 +67,22 @@ static bool read_file(const char *name, char *text, size_t room)
 	return n > 0;
 }
 
+/* Whether a process whose main has ended goes on by other threads. */
+static bool has_other_threads(pid_t pid)
+{
+	char name[64];
+	unsigned threads = 0;
+
+	snprintf(name, sizeof name, "/proc/%d/task", (int)pid);
+	DIR *folder = opendir(name);
+	if (!folder)
+		return false;
+	for (struct dirent *entry; (entry = readdir(folder));)
+		threads += isdigit((unsigned char)entry->d_name[0]) != 0;
+	closedir(folder);
+	return threads > 1;
+}
+
 /* The parent of a process, 0 where it is not there, or has ended. */
 pid_t parent_of(pid_t pid)
 {
@@ -76,7 +92,7 @@ pid_t parent_of(pid_t pid)
 	char *end = read_file(name, text, sizeof text) ? strrchr(text, ')') : NULL;
 	char state;
 	int parent;
-	if (!end || sscanf(end + 1, " %c %d", &state, &parent) != 2 || state == 'Z' || state == 'X')
+	if (!end || sscanf(end + 1, " %c %d", &state, &parent) != 2 || state == 'X' || (state == 'Z' && !has_other_threads(pid)))
 		return 0;
 	return parent;
 }

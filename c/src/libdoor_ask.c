@@ -5,6 +5,7 @@
 #include "libdoor.h"
 
 #include <errno.h>
+#include <linux/futex.h>
 #include <string.h>
 #include <sys/syscall.h>
 #include <unistd.h>
@@ -120,12 +121,21 @@ static bool is_of_this_process(const struct ask *ask)
 	return ask->generation == atomic_load_explicit(&connection.generation, memory_order_relaxed);
 }
 
+/* A thread that sleeps on this slot looks up. */
+void rouse(uint32_t index)
+{
+	(void)syscall(SYS_futex, &connection.area->slot[index].turn, FUTEX_WAKE, 1, NULL, NULL, 0);
+}
+
 /* Sleeps a while at most. */
 static void sleep_on(struct wire_slot *slot)
 {
 	static const struct timespec second = { .tv_sec = 1 };
 	uint32_t seen = WIRE_ASKED;
 
+	/* its procedures have been let in before, and nobody else takes them now */
+	if (thread.at == AT_WAIT && !is_program_there())
+		let_signals_in();
 	atomic_compare_exchange_strong(&slot->turn, &seen, WIRE_ASLEEP);
 	if (seen != WIRE_TOLD && futex_wait(&slot->turn, WIRE_ASLEEP, &second) == ETIMEDOUT)
 		look_for_broker();

@@ -31,7 +31,7 @@ static void keep_signals_off(void)
 	thread.mask = set_mask(SIGNALS_ALL);
 }
 
-static void let_signals_in(void)
+void let_signals_in(void)
 {
 	if (!thread.is_of_library || thread.is_unmasked || (~thread.mask & SIGNALS_ALL) == 0)
 		return;

@@ -12,6 +12,7 @@ static struct {
 	bool has_key;
 	pthread_key_t key;
 	_Atomic uint64_t taken[WIRE_SLOT_WORDS]; /* a bit for each slot */
+	_Atomic int program; /* threads with a slot that are not the library's */
 } own;
 
 /* A free slot, or -1 and errno: more threads of one process ask at a time than there are slots. */
@@ -63,6 +64,8 @@ int take_slot(void)
 	thread.index = (uint32_t)free;
 	thread.generation = atomic_load(&connection.generation);
 	thread.slot = &connection.area->slot[free];
+	if (!thread.is_of_library)
+		atomic_fetch_add(&own.program, 1);
 	return 0;
 }
 
@@ -73,6 +76,22 @@ void have_slot(uint32_t index)
 	thread.index = index;
 	thread.generation = atomic_load(&connection.generation);
 	thread.slot = &connection.area->slot[index];
+}
+
+/* Whether a thread of the program's own is there that may take signals, as far as threads have asked for anything. */
+bool is_program_there(void)
+{
+	return atomic_load_explicit(&own.program, memory_order_relaxed) > 0;
+}
+
+/* The last of them ends: those of the library look up, and take signals from now on. */
+static void program_leaves(void)
+{
+	if (thread.is_of_library || atomic_fetch_sub(&own.program, 1) != 1)
+		return;
+	for (uint32_t index = 0; index < WIRE_SLOTS; index++)
+		if (atomic_load(&own.taken[index / 64]) & 1ull << index % 64)
+			rouse(index);
 }
 
 /*
@@ -101,6 +120,7 @@ static void leave_wait(void)
 	thread.slot = NULL;
 	thread.service = NULL;
 	hand_wait_on(thread.index);
+	program_leaves();
 }
 
 /* Whether the thread is in the program. It is also where a handler has jumped out of the wait that it had interrupted. */
@@ -130,6 +150,7 @@ static void leave(void *unused)
 	uint32_t index = thread.index;
 	thread.slot = NULL;
 	give_slot_back(index);
+	program_leaves();
 }
 
 int make_thread_key(void)
@@ -150,6 +171,7 @@ void forget_threads(void)
 {
 	for (unsigned word = 0; word < WIRE_SLOT_WORDS; word++)
 		atomic_store(&own.taken[word], 0);
+	atomic_store(&own.program, 0);
 	thread.slot = NULL;
 	thread.ask = NULL;
 	set_at(AT_PROGRAM);
