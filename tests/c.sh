@@ -91,6 +91,12 @@ build() {
             give_up "$file does not compile:" "$work/made"
         cat "$work/made" >>"$work/warned"
     done
+    # those of several files have a Makefile, as a user runs it
+    for file in c/examples/*/Makefile; do
+        make -s --no-print-directory -C "${file%/Makefile}" OUT="$bin" CC="$cc" CFLAGS="$strict -O1 -g" >"$work/made" 2>&1 ||
+            give_up "${file%/Makefile} does not compile:" "$work/made"
+        cat "$work/made" >>"$work/warned"
+    done
 }
 
 # one run

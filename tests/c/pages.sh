@@ -5,7 +5,7 @@ case_headers() {
     [ ! -s "$work/warned" ] || wrong "$cc" "no message" "$(cat "$work/warned")"
     for compiler in gcc clang; do
         command -v $compiler >/dev/null || continue
-        for file in c/examples/*.c c/tests/*.c; do
+        for file in c/examples/*.c c/examples/*/*.c c/tests/*.c; do
             [ "$(readlink -f "$(command -v $compiler)")" != "$(readlink -f "$(command -v $cc)")" ] || break
             $compiler -c -o "$work/object" $strict -Ic/include "$file" >"$work/err" 2>&1
             [ ! -s "$work/err" ] || wrong "$compiler $file" "no message" "$(cat "$work/err")"
