@@ -8,8 +8,10 @@ use Rattle.dk_base.specs.declared.request.Request.TheVariants as request
 use Rattle.kernel_records.specs.declared.record.ThreadState.TheVariants as is
 use Rattle.ncd_app.specs.Words.{reply}
 use Rattle.written_kernel.specs.Types.{Answer, Event, Request, ThreadState}
-use Rattle.written_kernel.specs.Words.{AskedLine, State, Turn, asked_with, cache_reply, event_of, events_with_replies, is_asked_by, line_asked, line_in, lines_of_process, output_at, process_of, reply_after, state_after_turn, state_at, state_of, what_of, with_output, with_reply}
-use Rattle.written_kernel.proofs.Runs.{number-event_of, process_of-state_after}
+use Rattle.written_kernel.specs.Words.{State, Turn, process_of, state_after_turn, state_at, state_of, what_of}
+use Rattle.spec_events.specs.Words.{AskedLine, asked_with, cache_reply, event_of, events_with_replies, is_asked_by, line_asked, line_in, lines_of_process, output_at, reply_after, with_output, with_reply}
+use Rattle.written_kernel.proofs.Runs.{process_of-state_after}
+use Rattle.spec_events.proofs.Events.{number-event_of}
 use Rattle.written_kernel.proofs.Steps.{process_of-step}
 use Rattle.run_places.specs.Places.{answer_at}
 use Rattle.kernel_laws.specs.EventsShown.{EventsShown, ShowsTurn, answer_shown, line_asked_by, lines_asked, reply_shown, what_done, with_line}

@@ -9,7 +9,8 @@ use Rattle.work_ops.specs.Words.{output_of}
 use Rattle.dk_base.specs.declared.event.What.TheVariants as what
 use Rattle.dk_base.specs.declared.request.Request.TheVariants as request
 use Rattle.kernel_records.specs.declared.record.ThreadState.TheVariants as is
-use Rattle.written_kernel.specs.Words.{State, Turn, events_with_replies, process_of, root, state_at, state_of}
+use Rattle.written_kernel.specs.Words.{State, Turn, process_of, root, state_at, state_of}
+use Rattle.spec_events.specs.Words.{events_with_replies}
 use Rattle.run_places.specs.Places.{answer_at}
 
 -- by what the thread asked for

@@ -7,7 +7,8 @@ use Rattle.dk_base.specs.declared.answer.Answer.TheVariants as answer
 use Rattle.dk_base.specs.declared.set.TheConstants.PollSet.{IN, OUT}
 use Rattle.kernel_records.specs.Words.{Port}
 use Rattle.written_kernel.specs.Types.{Answer, Event, EventRec, Queued}
-use Rattle.written_kernel.specs.Words.{State, Turn, events_of, opening, with_new_thread}
+use Rattle.written_kernel.specs.Words.{State, Turn, opening, with_new_thread}
+use Rattle.spec_events.specs.Words.{events_of}
 use Rattle.kernel_laws.specs.OneShot.{queue_in}
 use Rattle.kernel_laws_examples.specs.PortLaws.{fd}
 

@@ -6,7 +6,8 @@ use Rattle.dk_base.specs.declared.request.AlertMode.TheVariants as mode
 use Rattle.dk_base.specs.declared.request.Request.TheVariants as request
 use Rattle.dk_base.specs.declared.answer.Answer.TheVariants as answer
 use Rattle.written_kernel.specs.Types.{Answer, Request}
-use Rattle.written_kernel.specs.Words.{IsOpening, State, Turn, events_of, is_runnable, is_running, least_runnable, opening, state_after, state_after_turn, with_new_thread}
+use Rattle.written_kernel.specs.Words.{IsOpening, State, Turn, is_runnable, is_running, least_runnable, opening, state_after, state_after_turn, with_new_thread}
+use Rattle.spec_events.specs.Words.{events_of}
 use Rattle.kernel_laws_examples.specs.WorkedRun.{answer_of}
 
 -- a thread that runs makes a request, and one that can go on from its wait makes none

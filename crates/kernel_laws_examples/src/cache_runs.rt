@@ -4,7 +4,8 @@
 ghost use Rattle.std.specs.Prelude.{◌≡◌, [], ◌∷◌, None, Some, codes, map, take, true};
 ghost use Rattle.dk_base.specs.declared.answer.Answer.TheVariants as answer;
 ghost use Rattle.dk_base.specs.declared.request.Request.TheVariants as request;
-ghost use Rattle.written_kernel.specs.Words.{events_with_replies, least_runnable, state_after};
+ghost use Rattle.written_kernel.specs.Words.{least_runnable, state_after};
+ghost use Rattle.spec_events.specs.Words.{events_with_replies};
 ghost use Rattle.kernel_laws.specs.EventsShown.{lines_asked, reply_shown};
 ghost use Rattle.kernel_laws_examples.specs.CacheRuns.{cache_answers, cache_start, cache_turns};
 ghost use Rattle.kernel_laws_examples.specs.PortRuns.{take_turns};

@@ -2,7 +2,8 @@
 //! that its events have these answers, and that what the laws speak of becomes true at these places.
 
 ghost use Rattle.std.specs.Prelude.{◌≡◌, map};
-ghost use Rattle.written_kernel.specs.Words.{IsOpening, IsRun, events_of};
+ghost use Rattle.written_kernel.specs.Words.{IsOpening, IsRun};
+ghost use Rattle.spec_events.specs.Words.{events_of};
 ghost use Rattle.run_places.specs.Places.{BecomesAnswered, BecomesEntered, BecomesReturned, NoticeBecomesEntered};
 ghost use Rattle.notice_laws.specs.Notices.{MakesNotice};
 ghost use Rattle.kernel_laws_examples.specs.WorkedRun.{answer_of, answers, start, turns};

@@ -3,7 +3,8 @@ use Rattle.std.proofs.Common.{◌≡◌, ℕ, zero, suc, ◌+◌, ◌<◌, ◌�
 use Rattle.std.proofs.lemmas.List.{append-nil}
 use Rattle.kernel_records.specs.declared.record.ThreadState.TheVariants as is
 use Rattle.written_kernel.specs.Types.{Answer, Request, ThreadState}
-use Rattle.written_kernel.specs.Words.{IsOpening, IsRun, State, Turn, event_of, events_of, output_at, state_after, state_after_turn, state_at, state_of, step, what_of, with_output}
+use Rattle.written_kernel.specs.Words.{IsOpening, IsRun, State, Turn, state_after, state_after_turn, state_at, state_of, step, what_of}
+use Rattle.spec_events.specs.Words.{event_of, events_of, output_at, with_output}
 use Rattle.written_kernel.proofs.Runs.{state_at_all}
 use Rattle.kernel_laws.specs.Laws.{Laws}
 use Rattle.kernel_laws.specs.Tasks.{Tasks}

@@ -1,6 +1,7 @@
 //! The laws of legal histories. Nothing runs here: a call of the function hands them to the caller's proof.
 ghost use Rattle.std.specs.Prelude.{◌≡◌, ℕ, map, slice_get, Some};
-ghost use Rattle.written_kernel.specs.Words.{IsRun, State, Turn, events_of, state_after, state_at, step};
+ghost use Rattle.written_kernel.specs.Words.{IsRun, State, Turn, state_after, state_at, step};
+ghost use Rattle.spec_events.specs.Words.{events_of};
 ghost use Rattle.kernel_laws.specs.Laws.{Laws};
 ghost use Rattle.spec_histories.specs.Histories.{Entry, History, IsHistory, end, turns_of};
 ghost use Rattle.law_histories.specs.Shown.{HasNoTask, event_shown, event_told};

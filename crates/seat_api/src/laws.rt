@@ -2,7 +2,8 @@
 
 ghost use Rattle.std.specs.Prelude.{◌≡◌, ◌+◌, ◌≤◌, List, length, map};
 ghost use Rattle.dk_base.specs.declared.limits.TheConstants.{EVENTS_MAX};
-ghost use Rattle.written_kernel.specs.Words.{IsRun, State, events_of, state_after as state_after_turns};
+ghost use Rattle.written_kernel.specs.Words.{IsRun, State, state_after as state_after_turns};
+ghost use Rattle.spec_events.specs.Words.{events_of};
 ghost use Rattle.seat_calls.specs.declared.entry.SeatEntry.{SeatEntry};
 ghost use Rattle.seat_calls.specs.declared.call.SeatReply.TheVariants.{Answer};
 ghost use Rattle.seat_api.specs.History.{AreAnswers, IsLegal, answered, replies, state_after, turns};

@@ -2,7 +2,8 @@
 use Rattle.std.specs.Prelude.{ℕ, ◌≡◌, ◌&&◌, Bool, true, false, not, if◌then◌else◌, Option, Some, None}
 use Rattle.dk_base.specs.declared.request.Request.TheVariants as request
 use Rattle.written_kernel.specs.Types.{Request}
-use Rattle.written_kernel.specs.Words.{IsFit, State, event_of, is_runnable, is_running, state_of, step}
+use Rattle.written_kernel.specs.Words.{IsFit, State, is_runnable, is_running, state_of, step}
+use Rattle.spec_events.specs.Words.{event_of}
 use Rattle.seat_calls.specs.declared.call.SeatAct.{SeatAct}
 use Rattle.seat_calls.specs.declared.call.SeatAct.TheVariants.{Enter, GoOn}
 use Rattle.seat_calls.specs.declared.call.SeatReply.{SeatReply}

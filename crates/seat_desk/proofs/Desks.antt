@@ -7,7 +7,8 @@ use Rattle.kernel_records.specs.declared.record.ThreadState.TheVariants as is
 use Rattle.kernel_records.specs.Words.{parent_in}
 use Rattle.kernel_records.proofs.Lists.{same_numbered}
 use Rattle.written_kernel.specs.Types.{Pid, Process, Request, ThreadState}
-use Rattle.written_kernel.specs.Words.{IsFit, IsOpening, IsRun, StandsFor, State, Turn, forget, output_at, parent_of, process_of, state_after as state_after_turns, state_of, step}
+use Rattle.written_kernel.specs.Words.{IsFit, IsOpening, IsRun, StandsFor, State, Turn, forget, parent_of, process_of, state_after as state_after_turns, state_of, step}
+use Rattle.spec_events.specs.Words.{output_at}
 use Rattle.written_kernel.proofs.Opening.{forget-opening}
 use Rattle.written_kernel.proofs.Runs.{events-state_after, state_at_all}
 use Rattle.written_kernel.proofs.Steps.{ProcessIdentity, process_identity, process_of-step, processes-step, step-keeps, threads-step}

@@ -3,7 +3,8 @@ use Rattle.std.proofs.Common.{◌≡◌, ℕ, suc, ◌+◌, ◌<◌, ◌≤◌, 
 use Rattle.std.proofs.lemmas.List.{append-nil}
 use Rattle.dk_base.specs.declared.limits.TheConstants.{EVENTS_MAX}
 use Rattle.written_kernel.specs.Types.{Request}
-use Rattle.written_kernel.specs.Words.{IsRun, MayTurn, State, Turn, event_of, events_of, is_runnable, is_running, state_after as state_after_turns, step}
+use Rattle.written_kernel.specs.Words.{IsRun, MayTurn, State, Turn, is_runnable, is_running, state_after as state_after_turns, step}
+use Rattle.spec_events.specs.Words.{event_of, events_of}
 use Rattle.written_kernel.proofs.Steps.{events-step}
 use Rattle.seat_calls.specs.declared.call.SeatAct.{SeatAct}
 use Rattle.seat_calls.specs.declared.call.SeatAct.TheVariants.{Enter, GoOn}

@@ -1,7 +1,8 @@
 -- Where the kernel answers, its answer is that of the event, for no thread is at a task.
 use Rattle.std.proofs.Common.{◌≡◌, ℕ, true, if◌then◌else◌, None, ap, sym, subst, ◌∙◌}
 use Rattle.written_kernel.specs.Types.{Answer as AnswerValue}
-use Rattle.written_kernel.specs.Words.{StandsFor, State, event_of, output_at, state_of, step, with_output}
+use Rattle.written_kernel.specs.Words.{StandsFor, State, state_of, step}
+use Rattle.spec_events.specs.Words.{event_of, output_at, with_output}
 use Rattle.seat_calls.specs.declared.call.SeatAct.{SeatAct}
 use Rattle.seat_calls.specs.declared.call.SeatReply.{SeatReply}
 use Rattle.seat_calls.specs.declared.call.SeatReply.TheVariants.{Answer}

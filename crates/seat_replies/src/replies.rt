@@ -1,7 +1,8 @@
 //! The kernel's reply to a call, once for the caller and once for the history.
 ghost use Rattle.std.specs.Prelude.{◌≡◌, ◌<◌, None, IfOk, OnErr};
 ghost use Rattle.dk_base.specs.declared.limits.TheConstants.{EVENTS_MAX};
-ghost use Rattle.written_kernel.specs.Words.{StandsFor, State, output_at, state_of};
+ghost use Rattle.written_kernel.specs.Words.{StandsFor, State, state_of};
+ghost use Rattle.spec_events.specs.Words.{output_at};
 ghost use Rattle.seat_calls.specs.Replies.{IsFitAct, is_answered, reply_of, state_by};
 
 use answering_kernel::asked::Answers;

@@ -5,7 +5,7 @@ use Rattle.std.proofs.lemmas.Bool.Decides.{nat_tests}
 use Rattle.std.proofs.lemmas.List.{map-append}
 use Rattle.std.proofs.lemmas.List.Elements.{filter-append}
 use Rattle.ncd_app.specs.Words.{NcdValue, StandsFor, reply}
-use Rattle.written_kernel.specs.Words.{AskedLine, cache_reply, is_asked_by, line_asked, lines_of_process}
+use Rattle.spec_events.specs.Words.{AskedLine, cache_reply, is_asked_by, line_asked, lines_of_process}
 use Rattle.sys_run.specs.NameTables.{AllTablesStandFrom}
 
 abbrev pub asked_line : ℕ → List ℕ → AskedLine

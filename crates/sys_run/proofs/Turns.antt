@@ -4,7 +4,8 @@ use Rattle.written_kernel.specs.Types.{Answer, Event, Pid, Request, Tid, What}
 use Rattle.thread_machine.specs.declared.machine.Machine.{Machine}
 use Rattle.thread_machine.specs.Words.{HasDeclaredEntry, Stands}
 use Rattle.kernel_records.specs.Words.{tid}
-use Rattle.written_kernel.specs.Words.{MayTurn, StandsFor, State, is_runnable, process_of, output_at, root, shown_answer, state_of, step, what_of, with_output, asked_with, line_in, reply_after}
+use Rattle.written_kernel.specs.Words.{MayTurn, StandsFor, State, is_runnable, process_of, root, state_of, step, what_of}
+use Rattle.spec_events.specs.Words.{output_at, shown_answer, with_output, asked_with, line_in, reply_after}
 use Rattle.script_lang.specs.Words.{ScriptValue}
 use Rattle.ncd_app.specs.Words.{NcdValue}
 use Rattle.std.specs.Option.{option_map}

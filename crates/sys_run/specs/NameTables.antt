@@ -2,7 +2,7 @@
 use Rattle.std.specs.Prelude.{ℕ, ◌≡◌, ◌<◌, List, [], ◌∷◌, length, suc}
 use Rattle.ncd_app.specs.Words.{NcdValue, StandsFor}
 use Rattle.script_lang.specs.Words.{ScriptValue}
-use Rattle.written_kernel.specs.Words.{AskedLine, lines_of_process}
+use Rattle.spec_events.specs.Words.{AskedLine, lines_of_process}
 
 -- the tables of the processes from p on
 abbrev pub AllTablesStandFrom : List AskedLine → ℕ → List NcdValue → Type 0

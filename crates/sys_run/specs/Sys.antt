@@ -1,7 +1,8 @@
 -- A script with the journal of its events so far.
 use Rattle.std.specs.Prelude.{ℕ, ◌≡◌, ◌-◌, ◌∷◌, ◌++◌, [], List, Option, None, Bool, if◌then◌else◌, is_some, nat_lt, slice_get, suc, length}
 use Rattle.written_kernel.specs.Types.{Event, Tid}
-use Rattle.written_kernel.specs.Words.{StandsFor, State, least_runnable, output_at, state_of, step, AskedLine}
+use Rattle.written_kernel.specs.Words.{StandsFor, State, least_runnable, state_of, step}
+use Rattle.spec_events.specs.Words.{output_at, AskedLine}
 use Rattle.kernel_records.specs.declared.record.ThreadState.TheVariants as is
 use Rattle.ncd_app.specs.Words.{NcdValue}
 use Rattle.work_ops.specs.Words.{TaskValue}

@@ -4,7 +4,8 @@ use Rattle.dk_base.specs.ByNumber.{at_number}
 use Rattle.std.specs.Option.{option_map}
 use Rattle.ncd_app.specs.Words.{NcdValue}
 use Rattle.written_kernel.specs.Types.{Request}
-use Rattle.written_kernel.specs.Words.{MayTurn, StandsFor, State, is_running, AskedLine, asked_with, line_in, reply_after}
+use Rattle.written_kernel.specs.Words.{MayTurn, StandsFor, State, is_running}
+use Rattle.spec_events.specs.Words.{AskedLine, asked_with, line_in, reply_after}
 use Rattle.script_lang.specs.Words.{ScriptValue}
 use Rattle.script_requests.specs.Types.{ScriptThread}
 use Rattle.script_requests.specs.Words.{Frame, IsThread, request_of}

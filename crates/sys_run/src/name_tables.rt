@@ -1,6 +1,6 @@
 //! The name tables of processes.
 ghost use Rattle.std.specs.Prelude.{◌≡◌, ◌≤◌, List, [], None, Some, length, IfOk, OnErr, OnOk};
-ghost use Rattle.written_kernel.specs.Words.{AskedLine, asked_with, line_in, reply_after};
+ghost use Rattle.spec_events.specs.Words.{AskedLine, asked_with, line_in, reply_after};
 ghost use Rattle.sys_run.specs.NameTables.{AllTablesStandFrom, CanReply};
 
 use dk_base::error::NoMemory;

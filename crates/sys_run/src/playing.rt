@@ -1,7 +1,8 @@
 //! A run whose events are told one after another, and not kept.
 ghost use Rattle.std.specs.Prelude.{◌≡◌, ◌≤◌, ◌++◌, ◌∷◌, [], Some, length, IfErr, IfOk, OnErr, OnOk};
 ghost use Rattle.dk_base.specs.declared.limits.TheConstants.{BUDGET_MAX};
-ghost use Rattle.written_kernel.specs.Words.{output_at, waiting_threads};
+ghost use Rattle.written_kernel.specs.Words.{waiting_threads};
+ghost use Rattle.spec_events.specs.Words.{output_at};
 ghost use Rattle.written_script.specs.Words.{ending_of as ending_of_state};
 ghost use Rattle.sys_run.specs.Playing.{EndsIfTold, EndsPlay, told_events, turn_of_play};
 ghost use Rattle.sys_run.specs.Sys.{LawsOf, history, state_of_run, with_journal};

@@ -1,6 +1,7 @@
 ghost use Rattle.std.specs.Prelude.{◌≡◌, ◌↔◌, IsTrue, ℕ, ◌+◌, ◌<◌, ◌≤◌, [], length, slice_get, Some, IfOk, option_map, OnOk, OnErr, take, true, false, All};
 ghost use Rattle.dk_base.specs.declared.limits.TheConstants.{BUDGET_MAX};
-ghost use Rattle.written_kernel.specs.Words.{is_runnable, output_at, state_of, waiting_threads};
+ghost use Rattle.written_kernel.specs.Words.{is_runnable, state_of, waiting_threads};
+ghost use Rattle.spec_events.specs.Words.{output_at};
 ghost use Rattle.script_requests.specs.Words.{IsDeclaredEvent, IsDeclaredThread, request_after};
 ghost use Rattle.written_script.specs.Words.{ending_of, is_over, scheduled_turns, tid_number};
 ghost use Rattle.sys_run.specs.Sys.{with_journal, history, state_of_run, with_turn, with_turns, turns_left, next_turn, scheduled_turn, threads_woken_by, LawsOf, IsJournal, WorksOn, is_working};

@@ -1,7 +1,8 @@
 //! One turn of a thread: its request or the end of its wait, the kernel's step, and the event.
 ghost use Rattle.std.specs.Prelude.{◌≡◌, ◌<◌, List, Some, true, IfOk, OnOk, OnErr, vec_len, vec_capacity};
 ghost use Rattle.written_kernel.specs.Types.{Event as EventValue};
-ghost use Rattle.written_kernel.specs.Words.{IsStep, StandsFor, State, is_running, step, what_of, what_of_entry, with_output};
+ghost use Rattle.written_kernel.specs.Words.{IsStep, StandsFor, State, is_running, step, what_of, what_of_entry};
+ghost use Rattle.spec_events.specs.Words.{with_output};
 ghost use Rattle.script_requests.specs.Words.{Frame, request_of};
 ghost use Rattle.thread_machine.specs.Words.{HasRoomForAnswer, IsMachine, Stands};
 ghost use Rattle.sys_run.specs.NameTables.{HasTables};

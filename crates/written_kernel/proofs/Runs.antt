@@ -1,17 +1,11 @@
 -- Runs: what one more turn adds, and the states on the way.
-use Rattle.std.proofs.Common.{◌≡◌, ℕ, zero, suc, ◌+◌, ◌≤◌, List, [], ◌∷◌, Some, length, take, slice_get, le_of_lt, refl, subst, ap, ◌∙◌, arith, add-one, length-take, take_all}
-use Rattle.std.proofs.lemmas.Option.{slice_get_within}
+use Rattle.std.proofs.Common.{◌≡◌, ℕ, zero, suc, ◌+◌, ◌≤◌, List, [], ◌∷◌, Some, length, take, slice_get, refl, subst, ap, ◌∙◌, arith, add-one, length-take, take_all}
 use Rattle.written_kernel.specs.State.{State, process_of}
-use Rattle.written_kernel.specs.Step.{event_of}
 use Rattle.written_kernel.specs.Legal.{MayTurn}
-use Rattle.written_kernel.specs.Runs.{Turn, state_after_turn, state_after, state_at, events_of, IsRun}
+use Rattle.written_kernel.specs.Runs.{Turn, state_after_turn, state_after, state_at, IsRun}
 use Rattle.written_kernel.proofs.Steps.{events-step, process_of-step}
 
 -- how many
-
-pub length-events_of : (m : State) (xs : List Turn) → length (events_of m xs) ≡ length xs
-length-events_of m [] = refl
-length-events_of m (x ∷ xs) = ap suc (length-events_of (state_after_turn m x) xs)
 
 pub events-state_after : (m : State) (xs : List Turn) → (state_after m xs).events ≡ m.events + length xs
 events-state_after m [] = omega arith
@@ -41,13 +35,6 @@ pub state_at_more :
     state_at m xs (i + 1) ≡ state_after_turn (state_at m xs i) x
 state_at_more m xs i x e = ap (state_at m xs) (add-one i) ∙ state_at_suc m xs i x e
 
-pub slice_get-events_of :
-    (m : State) (xs : List Turn) (i : ℕ) (x : Turn) → slice_get xs i ≡ Some x →
-    slice_get (events_of m xs) i ≡ Some (event_of (state_at m xs i) x.thread x.request)
-slice_get-events_of m [] i x e = cc
-slice_get-events_of m (y ∷ ys) zero x e = let k : y ≡ x = cc in ap (λ z. Some (event_of m z.thread z.request)) k
-slice_get-events_of m (y ∷ ys) (suc i) x e = slice_get-events_of (state_after_turn m y) ys i x e
-
 -- each turn of a run is one that its thread may take then
 pub MayTurn_at :
     (m : State) (xs : List Turn) (i : ℕ) (x : Turn) → IsRun m xs → slice_get xs i ≡ Some x →
@@ -55,9 +42,3 @@ pub MayTurn_at :
 MayTurn_at m [] i x h e = absurd (cc)
 MayTurn_at m (y ∷ ys) zero x h e = let k : y ≡ x = cc in subst (λ z. MayTurn m z.thread z.request) k h.0
 MayTurn_at m (y ∷ ys) (suc i) x h e = MayTurn_at (state_after_turn m y) ys i x h.1 e
-
--- the event of the turn at place i is number i + 1 of those after the opening
-pub number-event_of :
-    (m : State) (xs : List Turn) (i : ℕ) (x : Turn) → slice_get xs i ≡ Some x →
-    (event_of (state_at m xs i) x.thread x.request).number ≡ m.events + i + 1
-number-event_of m xs i x e = ap (λ n. n + 1) (events-state_at m xs i (le_of_lt (slice_get_within xs i x e)))

@@ -23,5 +23,4 @@ pub mod Kept
 pub mod Opening
 pub mod Legal
 pub mod Runs
-pub mod CacheReplies
 pub mod Words

@@ -1,8 +1,8 @@
 -- Runs: lists of turns, each a thread with its request, or with none where a wait of it ends.
 use Rattle.std.specs.Prelude.{ℕ, List, [], ◌∷◌, Option, take}
-use Rattle.written_kernel.specs.Types.{Event, Request}
+use Rattle.written_kernel.specs.Types.{Answer, Request}
 use Rattle.written_kernel.specs.State.{State}
-use Rattle.written_kernel.specs.Step.{step, event_of}
+use Rattle.written_kernel.specs.Step.{step}
 use Rattle.written_kernel.specs.Legal.{MayTurn}
 
 pub record Turn : Type 0 where
@@ -22,10 +22,10 @@ state_after m (x ∷ xs) = state_after (state_after_turn m x) xs
 abbrev pub state_at : State → List Turn → ℕ → State
 state_at m xs i = state_after m (take i xs)
 
--- the events of a list of turns
-abbrev pub events_of : State → List Turn → List Event
-events_of m [] = []
-events_of m (x ∷ xs) = event_of m x.thread x.request ∷ events_of (state_after_turn m x) xs
+-- the answers of a list of turns
+abbrev pub answers_of : State → List Turn → List Answer
+answers_of m [] = []
+answers_of m (x ∷ xs) = (step m x.thread x.request).answer ∷ answers_of (state_after_turn m x) xs
 
 -- each turn is one that its thread may take
 abbrev pub IsRun : State → List Turn → Type 0

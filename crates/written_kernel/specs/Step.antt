@@ -1,12 +1,10 @@
 -- One event: the act of a thread, and what follows it.
 use Rattle.std.specs.Prelude.{ℕ, ◌+◌, List, Option, Some, None}
-use Rattle.written_kernel.specs.Types.{Answer, Errno, Event, Request, ThreadState, Tid, What}
-use Rattle.dk_base.specs.declared.answer.Answer.TheVariants.{Data}
+use Rattle.written_kernel.specs.Types.{Answer, Errno, Request, ThreadState, Tid, What}
 use Rattle.dk_base.specs.declared.request.Request.TheVariants as request
 use Rattle.dk_base.specs.declared.event.What.TheVariants as what
 use Rattle.kernel_records.specs.declared.record.ThreadState.TheVariants as is
-use Rattle.work_ops.specs.Words.{output_of}
-use Rattle.kernel_records.specs.Words.{Test, first_refusal, tid}
+use Rattle.kernel_records.specs.Words.{Test, first_refusal}
 use Rattle.written_kernel.specs.State.{State, process_of, state_of}
 use Rattle.written_kernel.specs.Acts.{ActResult, no_act, unless_refused}
 use Rattle.written_kernel.specs.Subjects.{Subject, subject_of}
@@ -22,7 +20,6 @@ use Rattle.written_kernel.specs.Timers.{effect_of_timers, tests_of_timers}
 use Rattle.written_kernel.specs.Tasks.{effect_of_tasks, end_work, tests_of_tasks}
 use Rattle.written_kernel.specs.Settle.{settle}
 use Rattle.written_kernel.specs.Turns.{woken_threads}
-use Rattle.written_kernel.specs.Walks.{root}
 
 -- what an entry of thread t of process p is tested for, in this order, in the file of its subject
 
@@ -153,27 +150,3 @@ what_of_wait _ = what.Woken
 abbrev pub what_of : State → ℕ → Option Request → What
 what_of m t (Some r) = what_of_entry r
 what_of m t None = what_of_wait (state_of m t)
-
--- what a task computes, where a thread is at one
-abbrev pub output_at : ThreadState → Option (List ℕ)
-output_at (is.Working op input) = Some (output_of op input)
-output_at _ = None
-
-abbrev pub with_output : Option (List ℕ) → Answer → Answer
-with_output None a = a
-with_output (Some bytes) a = Data bytes
-
--- the answer that a turn's event shows: that of the step, with the bytes of a task
-abbrev pub shown_answer : State → ℕ → Answer → Answer
-shown_answer m t a = with_output (output_at (state_of m t)) a
-
--- the event of a turn, with the thread's root in the state before
-abbrev pub event_of : State → ℕ → Option Request → Event
-event_of m t r =
-    record {
-      number = m.events + 1;
-      thread = tid t;
-      root = tid (root m t);
-      what = what_of m t r;
-      answer = shown_answer m t (step m t r).answer;
-    }

@@ -4,7 +4,8 @@ use Rattle.std.specs.Prelude.{All, map}
 use Rattle.std.proofs.lemmas.List.Elements.{All-head, All-tail}
 use Rattle.dk_base.specs.declared.limits.TheConstants.{THREADS_MAX}
 use Rattle.written_kernel.specs.Types.{Event}
-use Rattle.written_kernel.specs.Words.{IsOpening, State, Turn, events_with_replies, is_runnable, opening, state_after, with_new_thread}
+use Rattle.written_kernel.specs.Words.{IsOpening, State, Turn, is_runnable, opening, state_after, with_new_thread}
+use Rattle.spec_events.specs.Words.{events_with_replies}
 use Rattle.written_kernel.specs.Opening.IsOpening.{thread}
 use Rattle.written_kernel.proofs.Steps.{events-step}
 use Rattle.written_kernel.proofs.Opening.{length-with_new_thread, opening_events}

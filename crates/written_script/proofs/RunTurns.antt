@@ -9,7 +9,8 @@ use Rattle.dk_base.specs.ByNumber.{at_number}
 use Rattle.dk_base.specs.declared.answer.Answer.TheVariants as answer
 use Rattle.written_kernel.specs.Types.{Answer, Pid, Process, Request, Thread}
 use Rattle.kernel_records.specs.Words.{new_thread_where, parent_in, process_in, state_in}
-use Rattle.written_kernel.specs.Words.{IsRun, MayTurn, State, bound_of, can_go_on, is_runnable, is_running, is_unborn_process, output_at, parent_of, process_of, shown_answer, state_of, step, thread_of, with_new_thread, with_output}
+use Rattle.written_kernel.specs.Words.{IsRun, MayTurn, State, bound_of, can_go_on, is_runnable, is_running, is_unborn_process, parent_of, process_of, state_of, step, thread_of, with_new_thread}
+use Rattle.spec_events.specs.Words.{output_at, shown_answer, with_output}
 use Rattle.kernel_records.proofs.Lists.{at_number-map, numbered_there, numbered_within, same_numbered}
 use Rattle.written_kernel.proofs.Runs.{process_of-state_after}
 use Rattle.written_kernel.proofs.Opening.{bound_of-opening, next_thread, object_at-opening, opened}

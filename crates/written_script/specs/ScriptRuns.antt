@@ -2,7 +2,8 @@
 use Rattle.std.specs.Prelude.{ℕ, ◌≡◌, ◌≤◌, ◌||◌, List, [], ◌∷◌, ◌++◌, Option, Some, None, Bool, true, is_none, zero, suc, ◌+◌, ◌-◌, length, map, take, nat_le, if◌then◌else◌}
 use Rattle.std.specs.Option.{option_map_or}
 use Rattle.written_kernel.specs.Types.{Event, Pid, Request, Tid}
-use Rattle.written_kernel.specs.Words.{AskedLine, State, Turn, asked_with, event_of, is_runnable, is_running, least_runnable, line_in, opening, process_of, reply_after, step, with_child, with_new_thread, with_reply}
+use Rattle.written_kernel.specs.Words.{State, Turn, is_runnable, is_running, least_runnable, opening, process_of, step, with_child, with_new_thread}
+use Rattle.spec_events.specs.Words.{AskedLine, asked_with, event_of, line_in, reply_after, with_reply}
 use Rattle.script_requests.specs.Types.{ScriptProcess, ScriptThread}
 use Rattle.script_lang.specs.Words.{ScriptValue}
 use Rattle.script_requests.specs.Words.{request_after}

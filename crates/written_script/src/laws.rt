@@ -3,7 +3,8 @@
 
 ghost use Rattle.std.specs.Prelude.{◌≡◌, ℕ, List, [], None, Some, length, true, false};
 ghost use Rattle.script_lang.specs.Words.{ScriptValue, spells};
-ghost use Rattle.written_kernel.specs.Words.{MayTurn, events_with_replies, is_runnable, state_after};
+ghost use Rattle.written_kernel.specs.Words.{MayTurn, is_runnable, state_after};
+ghost use Rattle.spec_events.specs.Words.{events_with_replies};
 ghost use Rattle.written_script.specs.DeclaredRuns.{IsDeclared};
 ghost use Rattle.written_script.specs.Plays.{IsWholePlay, IsRefusedPlay};
 ghost use Rattle.written_script.specs.ScriptRuns.{run, request_at_turn, IsAllowed, Refusal, opening_of, refusal, turns_of, turns_of_play};

@@ -4,7 +4,8 @@ use Rattle.std.specs.Prelude.{nat_le, is_none}
 use Rattle.std.specs.List.{flat_map}
 use Rattle.std.proofs.lemmas.Bool.Decides.{nat_tests}
 use Rattle.dk_base.specs.declared.answer.Answer.TheVariants as answer
-use Rattle.written_kernel.specs.Words.{asked_with, event_of, is_running, least_runnable, line_in, process_of, reply_after, step, waiting_threads, with_reply}
+use Rattle.written_kernel.specs.Words.{is_running, least_runnable, process_of, step, waiting_threads}
+use Rattle.spec_events.specs.Words.{asked_with, event_of, line_in, reply_after, with_reply}
 use Rattle.script_lang.specs.Words.{ScriptValue}
 use Rattle.script_requests.specs.Types.{Answer, Event, Request, Tid}
 use Rattle.script_requests.specs.Words.{Frame, answer_text, end_line_of, first_frame, frame_after, frame_after_answer, frame_from, line_of, lines_text, request_after, request_of, spaced_name, trace_text, waiting_text}

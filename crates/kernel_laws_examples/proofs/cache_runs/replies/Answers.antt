@@ -1,7 +1,8 @@
 use Rattle.std.proofs.Common.{refl}
 use Rattle.std.specs.Fmt.{digits}
 use Rattle.ncd_app.specs.Definition.{found_from}
-use Rattle.written_kernel.specs.Words.{cache_reply, step}
+use Rattle.written_kernel.specs.Words.{step}
+use Rattle.spec_events.specs.Words.{cache_reply}
 use Rattle.kernel_laws_examples.proofs.cache_runs.replies.Goals as goal
 
 pub returns-clause-taken : goal.returns-clause-taken

@@ -1,7 +1,7 @@
 use Rattle.std.proofs.Common.{◌≡◌, ◌+◌, ◌-◌, ◌<◌, ◌≤◌, ◌∙◌, Some, ap, arith, length, refl, sym}
 use Rattle.std.proofs.lemmas.Option.{slice_get_read}
 use Rattle.ncd_app.specs.Words.{reply}
-use Rattle.written_kernel.specs.Words.{lines_of_process}
+use Rattle.spec_events.specs.Words.{lines_of_process}
 use Rattle.sys_run.proofs.NameTables.{cache_reply-is, few-lines, table-stands, tables-replied}
 use Rattle.sys_run.proofs.name_tables.NameTables.reply.Goals as goal
 

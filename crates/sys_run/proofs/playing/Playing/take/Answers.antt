@@ -1,6 +1,6 @@
 use Rattle.std.proofs.Common.{arith, refl, ap, ◌∙◌}
 use Rattle.std.proofs.lemmas.Option.{slice_get_read}
-use Rattle.written_kernel.specs.Words.{output_at}
+use Rattle.spec_events.specs.Words.{output_at}
 use Rattle.sys_run.specs.Sys.{state_of_run, with_journal}
 use Rattle.sys_run.specs.Playing.{first_events}
 use Rattle.sys_run.proofs.FirstTurns.{can_turn, its_machine, so_far, told, told_same}

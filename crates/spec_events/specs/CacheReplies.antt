@@ -3,10 +3,9 @@
 use Rattle.std.specs.Prelude.{ℕ, ◌==◌, Bool, List, [], ◌∷◌, ◌++◌, Option, Some, None, filter, map}
 use Rattle.written_kernel.specs.Types.{Event, Request}
 use Rattle.dk_base.specs.declared.request.Request.TheVariants.{Ncd}
-use Rattle.written_kernel.specs.State.{State, process_of}
-use Rattle.written_kernel.specs.Step.{event_of, with_output}
-use Rattle.written_kernel.specs.Runs.{Turn, state_after_turn}
+use Rattle.written_kernel.specs.Words.{State, Turn, process_of, state_after_turn}
 use Rattle.ncd_app.specs.Words.{reply}
+use Rattle.spec_events.specs.Events.{event_of, with_output}
 
 -- a line that a process asked
 pub record AskedLine : Type 0 where
