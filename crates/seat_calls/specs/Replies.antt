@@ -3,7 +3,6 @@ use Rattle.std.specs.Prelude.{ℕ, ◌≡◌, ◌&&◌, Bool, true, false, not, 
 use Rattle.dk_base.specs.declared.request.Request.TheVariants as request
 use Rattle.written_kernel.specs.Types.{Request}
 use Rattle.written_kernel.specs.Words.{IsFit, State, is_runnable, is_running, state_of, step}
-use Rattle.spec_events.specs.Words.{event_of}
 use Rattle.seat_calls.specs.declared.call.SeatAct.{SeatAct}
 use Rattle.seat_calls.specs.declared.call.SeatAct.TheVariants.{Enter, GoOn}
 use Rattle.seat_calls.specs.declared.call.SeatReply.{SeatReply}
@@ -36,9 +35,9 @@ abbrev pub refusal : State → ℕ → SeatAct → SeatReply
 refusal m t (Enter r) = NotRunning (state_of m t)
 refusal m t GoOn = NotReady
 
--- the step's answer as its event shows it, with the bytes of a task where one ends, which no seat can begin; or the refusal
+-- the answer of the step, or the refusal
 abbrev pub reply_of : State → ℕ → SeatAct → SeatReply
-reply_of m t a = if is_answered m t a then Answer (event_of m t (request_of a)).answer else refusal m t a
+reply_of m t a = if is_answered m t a then Answer (step m t (request_of a)).answer else refusal m t a
 
 -- the state after a call: that of the step; a refusal changes nothing
 abbrev pub state_by : State → ℕ → SeatAct → State

@@ -1,26 +1,22 @@
--- A desk: what its kernel stands for keeps the names of the opening state, has no thread at a task, and goes on with each call.
-use Rattle.std.proofs.Common.{◌≡◌, ℕ, suc, ◌<◌, ◌≤◌, List, [], ◌∷◌, ◌++◌, Bool, true, false, if◌then◌else◌, Option, None, Some, length, option_map, slice_get, refl, ap, sym, subst, ◌∙◌, arith}
+-- A desk: what its kernel stands for keeps the names of the opening state, and goes on with each call.
+use Rattle.std.proofs.Common.{◌≡◌, ℕ, suc, ◌<◌, ◌≤◌, List, [], ◌∷◌, ◌++◌, Bool, true, false, if◌then◌else◌, Option, None, Some, length, option_map, refl, ap, sym, subst, ◌∙◌, arith}
 use Rattle.dk_base.specs.ByNumber.{at_number}
 use Rattle.dk_base.specs.declared.limits.TheConstants.{EVENTS_MAX}
 use Rattle.dk_base.specs.declared.request.Request.TheVariants as request
-use Rattle.kernel_records.specs.declared.record.ThreadState.TheVariants as is
 use Rattle.kernel_records.specs.Words.{parent_in}
 use Rattle.kernel_records.proofs.Lists.{same_numbered}
-use Rattle.written_kernel.specs.Types.{Pid, Process, Request, ThreadState}
-use Rattle.written_kernel.specs.Words.{IsFit, IsOpening, IsRun, StandsFor, State, Turn, forget, parent_of, process_of, state_after as state_after_turns, state_of, step}
-use Rattle.spec_events.specs.Words.{output_at}
+use Rattle.written_kernel.specs.Types.{Pid, Process, Request}
+use Rattle.written_kernel.specs.Words.{IsFit, IsOpening, StandsFor, State, Turn, forget, parent_of, process_of, step}
 use Rattle.written_kernel.proofs.Opening.{forget-opening}
-use Rattle.written_kernel.proofs.Runs.{events-state_after, state_at_all}
+use Rattle.written_kernel.proofs.Runs.{events-state_after}
 use Rattle.written_kernel.proofs.Steps.{ProcessIdentity, process_identity, process_of-step, processes-step, step-keeps, threads-step}
-use Rattle.kernel_laws.specs.Laws.{Laws}
-use Rattle.kernel_laws.specs.Tasks.{Tasks}
 use Rattle.seat_calls.specs.declared.call.SeatAct.{SeatAct}
 use Rattle.seat_calls.specs.declared.call.SeatAct.TheVariants.{Enter, GoOn}
 use Rattle.seat_calls.specs.declared.entry.SeatEntry.{SeatEntry}
 use Rattle.seat_table.specs.declared.limits.TheConstants.{HISTORY_MAX}
 use Rattle.seat_desk.specs.Desk.{IsDesk}
 use Rattle.seat_desk.specs.History.{Follows, IsFitAct, IsLegal, answered, by, is_allowed, is_answered, reply_of, request_of, state_after, state_by, turns}
-use Rattle.seat_desk.proofs.Histories.{every_at, is_allowed_turn, legal-snoc, runs, state-snoc}
+use Rattle.seat_desk.proofs.Histories.{legal-snoc, runs, state-snoc}
 
 -- what a request may name is the same
 
@@ -121,61 +117,18 @@ pub fit_forgotten : (m : State) (t : ℕ) (a : SeatAct) → IsFitAct m t a → I
 fit_forgotten m t a =
     fit_act_kept m (forget m) (record { threads = refl; processes = refl; process = λ u. refl; parent = λ p. refl }) t a
 
--- no thread is at a task, since no seat asks for one
-
-abbrev pub AreLaws : Type 0
-AreLaws = (m : State) (xs : List Turn) → IsOpening m → IsRun m xs → Laws m xs
-
-tasks_of : (m : State) (xs : List Turn) → Laws m xs → Tasks m xs
-unfolding Laws
-tasks_of m xs l = l.tasks
-
-no_task :
-    (m : State) (xs : List Turn) → Tasks m xs → ((i : ℕ) (x : Turn) → slice_get xs i ≡ Some x → is_allowed_turn x.request ≡ true) →
-    (t : ℕ) (s : ThreadState) → state_of (state_after_turns m xs) t ≡ s → output_at s ≡ None
-no_task m xs h only t (is.Working op input) e =
-    let was = h.asked (length xs) t op input (omega arith) (ap (λ n. state_of n t) (state_at_all m xs (length xs) (omega arith)) ∙ e) in
-    let ok : is_allowed_turn was.turn.request ≡ true = only was.at was.turn was.found in
-    let asked : is_allowed_turn was.turn.request ≡ false = ap is_allowed_turn was.work in
-    absurd (cc (asked, ok))
-no_task m xs h only t is.Dormant e = refl
-no_task m xs h only t is.Running e = refl
-no_task m xs h only t (is.Idle since) e = refl
-no_task m xs h only t (is.Given item) e = refl
-no_task m xs h only t (is.Calling c) e = refl
-no_task m xs h only t (is.Getting port max nget one interrupted) e = refl
-no_task m xs h only t (is.Awaiting path) e = refl
-no_task m xs h only t is.FailedReturn e = refl
-no_task m xs h only t is.Done e = refl
-
--- a desk can take another call
-pub record IsReady (kernel : State) : Type 0 where
-  pub few : kernel.events < EVENTS_MAX
-  pub no_task : (t : ℕ) → output_at (state_of kernel t) ≡ None
-
-pub ready : (opening kernel : State) (es : List SeatEntry) → AreLaws → IsDesk opening kernel es → length es ≤ HISTORY_MAX → IsReady kernel
-ready opening kernel es laws d few =
+-- a desk's kernel can take another event
+few_events : (opening kernel : State) (es : List SeatEntry) → IsDesk opening kernel es → length es ≤ HISTORY_MAX → kernel.events < EVENTS_MAX
+few_events opening kernel es d few =
     let run = runs opening [] es d.legal in
     let xs : List Turn = turns (answered es) in
-    let after : state_after opening es ≡ state_after_turns opening xs = run.state in
     let many : (state_after opening es).events ≡ length xs =
-    omega (arith, ap (λ (n : State). n.events) after, events-state_after opening xs, d.no_event) in
-    let short : length xs ≤ length es = omega (arith, length-map-turns (answered es), run.few) in
-    let kept : kernel.events ≡ (state_after opening es).events = ap (λ (n : State). n.events) d.stands in
-    let is_run : IsRun opening xs = run.run (omega (arith, d.no_event, length-map-turns (answered es), short, few)) in
-    let tasks = tasks_of opening xs (laws opening xs d.opens is_run) in
-    record {
-      few = omega (arith, kept, many, short, few);
-      no_task =
-          λ t.
-          ap (λ (n : State). output_at (state_of n t)) d.stands
-          ∙ (ap (λ (n : State). output_at (state_of n t)) after
-          ∙ no_task opening xs tasks (λ i x e. every_at xs i x run.allowed e) t (state_of (state_after_turns opening xs) t) refl);
-    }
+    omega (arith, ap (λ (n : State). n.events) run.state, events-state_after opening xs, d.no_event) in
+    omega (arith, ap (λ (n : State). n.events) d.stands, many, length-turns (answered es), run.few, few)
   where
-    length-map-turns : (es : List SeatEntry) → length (turns es) ≡ length es
-    length-map-turns [] = refl
-    length-map-turns (e ∷ es) = ap suc (length-map-turns es)
+    length-turns : (es : List SeatEntry) → length (turns es) ≡ length es
+    length-turns [] = refl
+    length-turns (e ∷ es) = ap suc (length-turns es)
 
 -- a kernel in its opening state, which is put into the box, is a desk without entries
 pub opened :
@@ -215,18 +168,15 @@ called opening kernel es all e before d is f stands =
 pub record MayReply (kernel : State) (t : ℕ) (a : SeatAct) : Type 0 where
   pub fit : IsFitAct kernel t a
   pub few : kernel.events < EVENTS_MAX
-  pub no_task : output_at (state_of kernel t) ≡ None
 
 pub may_reply :
-    (opening kernel box : State) (es log : List SeatEntry) (t : ℕ) (a : SeatAct) → AreLaws → kernel ≡ box → IsDesk opening box es → es ≡ log →
+    (opening kernel box : State) (es log : List SeatEntry) (t : ℕ) (a : SeatAct) → kernel ≡ box → IsDesk opening box es → es ≡ log →
     IsFitAct opening t a → length log ≤ HISTORY_MAX → MayReply kernel t a
-may_reply opening kernel box es log t a laws is desk seen fit few =
+may_reply opening kernel box es log t a is desk seen fit few =
     let d : IsDesk opening kernel es = subst (λ m. IsDesk opening m es) (sym is) desk in
-    let can = ready opening kernel es laws d (subst (λ (l : List SeatEntry). length l ≤ HISTORY_MAX) (sym seen) few) in
     record {
       fit = subst (λ m. IsFitAct m t a) (sym d.stands) (fit_forgotten (state_after opening es) t a (fit_after opening es t a fit));
-      few = can.few;
-      no_task = can.no_task t;
+      few = few_events opening kernel es d (subst (λ (l : List SeatEntry). length l ≤ HISTORY_MAX) (sym seen) few);
     }
 
 -- and after its reply the desk has one entry more

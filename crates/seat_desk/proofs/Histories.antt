@@ -1,17 +1,14 @@
 -- Legal histories: one more entry, and the run that the answered calls are.
-use Rattle.std.proofs.Common.{◌≡◌, ℕ, suc, ◌+◌, ◌<◌, ◌≤◌, List, [], ◌∷◌, ◌++◌, Bool, true, false, cond, if◌then◌else◌, not, ◌&&◌, length, map, Option, None, Some, slice_get, zero, refl, ap, sym, subst, ◌∙◌, arith, append_assoc}
+use Rattle.std.proofs.Common.{◌≡◌, ℕ, ◌+◌, ◌<◌, ◌≤◌, List, [], ◌∷◌, ◌++◌, Bool, true, false, cond, if◌then◌else◌, not, ◌&&◌, length, map, refl, ap, sym, subst, ◌∙◌, arith, append_assoc}
 use Rattle.std.proofs.lemmas.List.{append-nil}
 use Rattle.dk_base.specs.declared.limits.TheConstants.{EVENTS_MAX}
-use Rattle.written_kernel.specs.Types.{Request}
-use Rattle.written_kernel.specs.Words.{IsRun, MayTurn, State, Turn, is_runnable, is_running, state_after as state_after_turns, step}
-use Rattle.spec_events.specs.Words.{event_of, events_of}
+use Rattle.written_kernel.specs.Words.{IsRun, MayTurn, State, answers_of, is_runnable, is_running, state_after as state_after_turns, step}
 use Rattle.written_kernel.proofs.Steps.{events-step}
 use Rattle.seat_calls.specs.declared.call.SeatAct.{SeatAct}
 use Rattle.seat_calls.specs.declared.call.SeatAct.TheVariants.{Enter, GoOn}
 use Rattle.seat_calls.specs.declared.entry.SeatEntry.{SeatEntry}
 use Rattle.seat_calls.specs.declared.call.SeatReply.TheVariants.{Answer}
-use Rattle.seat_desk.specs.History.{AreAnswers, Follows, IsFitAct, IsLegal, IsLegalAfter, answered, is_allowed, is_answer, is_answered, refusal, replies, reply_of, request_of, state_after, state_by, turns}
-use Rattle.seat_table.specs.Sums.{Every}
+use Rattle.seat_desk.specs.History.{AreAnswers, Follows, IsFitAct, IsLegal, IsLegalAfter, answered, is_answer, is_answered, refusal, replies, reply_of, request_of, state_after, state_by, turns}
 
 pub state-snoc :
     (m : State) (es : List SeatEntry) (e : SeatEntry) → state_after m (es ++ e ∷ []) ≡ state_by (state_after m es) e.thread.0 e.act
@@ -43,7 +40,7 @@ legal-last m before (x ∷ es) e l =
 answers : (m : State) (t : ℕ) (a : SeatAct) → is_answer (reply_of m t a) ≡ is_answered m t a
 answers m t a = go a (is_answered m t a)
   where
-    go : (a : SeatAct) (b : Bool) → is_answer (if b then Answer (event_of m t (request_of a)).answer else refusal m t a) ≡ b
+    go : (a : SeatAct) (b : Bool) → is_answer (if b then Answer (step m t (request_of a)).answer else refusal m t a) ≡ b
     go a true = refl
     go (Enter r) false = refl
     go GoOn false = refl
@@ -62,20 +59,11 @@ may_turn m t GoOn f h few =
     let can = both (is_runnable m t) (not (is_running m t)) h in
     record { runnable = can.0; waits = no_true (is_running m t) can.1; few = few }
 
-abbrev pub is_allowed_turn : Option Request → Bool
-is_allowed_turn None = true
-is_allowed_turn (Some r) = is_allowed r
-
-allowed_turn : (m : State) (t : ℕ) (a : SeatAct) → IsFitAct m t a → is_allowed_turn (request_of a) ≡ true
-allowed_turn m t (Enter r) f = f.1
-allowed_turn m t GoOn f = refl
-
 -- `xs` are the answered entries of a history
 pub record IsRunOf (m : State) (es xs : List SeatEntry) : Type 0 where
   pub run : m.events + length xs ≤ EVENTS_MAX → IsRun m (turns xs)
-  pub events : replies xs ≡ map (λ e. Answer e.answer) (events_of m (turns xs))
+  pub answers : replies xs ≡ map Answer (answers_of m (turns xs))
   pub state : state_after m es ≡ state_after_turns m (turns xs)
-  pub allowed : Every (λ x. is_allowed_turn x.request ≡ true) (turns xs)
   pub few : length xs ≤ length es
 
 runs_with :
@@ -87,8 +75,8 @@ runs_with m before es e f rest true h =
     let after : State = (step m t (request_of e.act)).state in
     let next : state_by m t e.act ≡ after = ap (λ c. if c then after else m) h in
     let on : IsRunOf after es (answered es) = subst (λ n. IsRunOf n es (answered es)) next rest in
-    let reply : e.reply ≡ Answer (event_of m t (request_of e.act)).answer =
-    f.reply ∙ ap (λ c. if c then Answer (event_of m t (request_of e.act)).answer else refusal m t e.act) h in
+    let reply : e.reply ≡ Answer (step m t (request_of e.act)).answer =
+    f.reply ∙ ap (λ c. if c then Answer (step m t (request_of e.act)).answer else refusal m t e.act) h in
     let told : is_answer e.reply ≡ true = ap is_answer f.reply ∙ (answers m t e.act ∙ h) in
     subst (IsRunOf m (e ∷ es)) (sym (ap (λ c. cond c (e ∷ answered es) (answered es)) told))
     record {
@@ -97,9 +85,8 @@ runs_with m before es e f rest true h =
             may_turn m t e.act f.fit h (omega arith),
             on.run (omega (arith, events-step m t (request_of e.act))),
           );
-      events = λ i. reply i ∷ on.events i;
+      answers = λ i. reply i ∷ on.answers i;
       state = ap (λ n. state_after n es) next ∙ on.state;
-      allowed = (allowed_turn m t e.act f.fit, on.allowed);
       few = omega (arith, on.few);
     }
 runs_with m before es e f rest false h =
@@ -110,14 +97,13 @@ runs_with m before es e f rest false h =
     subst (IsRunOf m (e ∷ es)) (sym (ap (λ c. cond c (e ∷ answered es) (answered es)) told))
     record {
       run = on.run;
-      events = on.events;
+      answers = on.answers;
       state = ap (λ n. state_after n es) next ∙ on.state;
-      allowed = on.allowed;
       few = omega (arith, on.few);
     }
 
 pub runs : (m : State) (before es : List SeatEntry) → IsLegalAfter m before es → IsRunOf m es (answered es)
-runs m before [] l = record { run = λ _. tt; events = refl; state = refl; allowed = tt; few = omega arith }
+runs m before [] l = record { run = λ _. tt; answers = refl; state = refl; few = omega arith }
 runs m before (e ∷ es) l =
     runs_with m before es e l.0 (runs (state_by m e.thread.0 e.act) (before ++ e ∷ []) es l.1) (is_answered m e.thread.0 e.act) refl
 
@@ -128,14 +114,6 @@ answered-all (e ∷ es) h =
 
 pub all_are_run :
     (m : State) (es : List SeatEntry) → IsLegal m es → AreAnswers es →
-    replies es ≡ map (λ e. Answer e.answer) (events_of m (turns es))
+    replies es ≡ map Answer (answers_of m (turns es))
 all_are_run m es l h =
-    subst (λ xs. replies xs ≡ map (λ e. Answer e.answer) (events_of m (turns xs))) (answered-all es h) (runs m [] es l).events
-
--- each turn of a list of turns that all pass
-pub every_at :
-    (xs : List Turn) (i : ℕ) (x : Turn) → Every (λ x. is_allowed_turn x.request ≡ true) xs → slice_get xs i ≡ Some x →
-    is_allowed_turn x.request ≡ true
-every_at [] i x h e = absurd (cc e)
-every_at (y ∷ ys) zero x h e = let k : y ≡ x = cc e in subst (λ (z : Turn). is_allowed_turn z.request ≡ true) k h.0
-every_at (y ∷ ys) (suc i) x h e = every_at ys i x h.1 e
+    subst (λ xs. replies xs ≡ map Answer (answers_of m (turns xs))) (answered-all es h) (runs m [] es l).answers

@@ -102,7 +102,6 @@ impl<K: Answers, J: Opening> Desk<K, J> {
         ensures legal { IfOk result (λ _. IsLegal J.opening self.new) }
         ensures err { OnErr result (self.new ≡ self.old) }
     {
-        kernel_laws::laws::every_run();
         self.history.reserve(1)?;
         let Replied { act, kept, told } = reply(self.alloc, &mut *self.kernel, thread, act)?;
         self.history.push(SeatEntry {

@@ -1,8 +1,7 @@
 //! The kernel's reply to a call, once for the caller and once for the history.
-ghost use Rattle.std.specs.Prelude.{◌≡◌, ◌<◌, None, IfOk, OnErr};
+ghost use Rattle.std.specs.Prelude.{◌≡◌, ◌<◌, IfOk, OnErr};
 ghost use Rattle.dk_base.specs.declared.limits.TheConstants.{EVENTS_MAX};
-ghost use Rattle.written_kernel.specs.Words.{StandsFor, State, state_of};
-ghost use Rattle.spec_events.specs.Words.{output_at};
+ghost use Rattle.written_kernel.specs.Words.{StandsFor, State};
 ghost use Rattle.seat_calls.specs.Replies.{IsFitAct, is_answered, reply_of, state_by};
 
 use answering_kernel::asked::Answers;
@@ -31,7 +30,7 @@ fn is_answered<K: Answers>(kernel: &K, thread: Tid, act: &SeatAct) -> bool
     }
 }
 
-/// The kernel's own call is the last that may answer want of memory, which leaves the kernel as it was. No thread is at a task.
+/// The kernel's own call is the last that may answer want of memory, which leaves the kernel as it was.
 pub fn reply<K: Answers>(
     alloc: Global,
     kernel: &mut K,
@@ -40,7 +39,6 @@ pub fn reply<K: Answers>(
 ) -> Result<Replied, NoMemory>
     requires fit { IsFitAct (K.keeps kernel.old) thread.0 act }
     requires few { (K.keeps kernel.old).events < EVENTS_MAX }
-    requires no_task { output_at (state_of (K.keeps kernel.old) thread.0) ≡ None }
     ensures act { IfOk result (λ r. r.act ≡ act) }
     ensures kept { IfOk result (λ r. (m : State) → StandsFor (K.keeps kernel.old) m → r.kept ≡ reply_of m thread.0 act) }
     ensures told { IfOk result (λ r. r.told ≡ r.kept) }

@@ -7,7 +7,7 @@ use Rattle.seat_replies.proofs.replies.reply.Goals as goal
 pub returns-in_ok-answer-clause-kept : goal.returns-in_ok-answer-clause-kept
 returns-in_ok-answer-clause-kept g c =
     λ m h.
-    answered_reply (g.K.Answers.keeps c.args.kernel.now) m c.args.thread.0 c.args.act c.in_ok-answer.field-0.answer h c.requires.no_task
+    answered_reply m c.args.thread.0 c.args.act c.in_ok-answer.field-0.answer
     (sym (c.is_answered.ensures.stands m h) ∙ c.if-is_answered.true)
     ((c.in_ok-answer.ensures.step m h).answer ∙ ap (λ q. (step m c.args.thread.0 q).answer) c.into_request.ensures)
 

@@ -7,22 +7,15 @@ pub reply-requires-clause-fit : goal.reply-requires-clause-fit
 reply-requires-clause-fit g c =
     (may_reply g.J.Opening.opening (g.K.Answers.keeps c.deref_mut.result.now) (g.K.Answers.keeps c.self.inside.kernel.value)
     c.self.inside.history.items
-    c.args.self.now c.args.thread.0 c.args.act c.every_run.ensures (ap g.K.Answers.keeps c.deref_mut.ensures.value) c.self.invariant
+    c.args.self.now c.args.thread.0 c.args.act (ap g.K.Answers.keeps c.deref_mut.ensures.value) c.self.invariant
     c.self.view_is c.requires.fit c.requires.few).fit
 
 pub reply-requires-clause-few : goal.reply-requires-clause-few
 reply-requires-clause-few g c =
     (may_reply g.J.Opening.opening (g.K.Answers.keeps c.deref_mut.result.now) (g.K.Answers.keeps c.self.inside.kernel.value)
     c.self.inside.history.items
-    c.args.self.now c.args.thread.0 c.args.act c.every_run.ensures (ap g.K.Answers.keeps c.deref_mut.ensures.value) c.self.invariant
+    c.args.self.now c.args.thread.0 c.args.act (ap g.K.Answers.keeps c.deref_mut.ensures.value) c.self.invariant
     c.self.view_is c.requires.fit c.requires.few).few
-
-pub reply-requires-clause-no_task : goal.reply-requires-clause-no_task
-reply-requires-clause-no_task g c =
-    (may_reply g.J.Opening.opening (g.K.Answers.keeps c.deref_mut.result.now) (g.K.Answers.keeps c.self.inside.kernel.value)
-    c.self.inside.history.items
-    c.args.self.now c.args.thread.0 c.args.act c.every_run.ensures (ap g.K.Answers.keeps c.deref_mut.ensures.value) c.self.invariant
-    c.self.view_is c.requires.fit c.requires.few).no_task
 
 pub invariant_of-self-2 : goal.invariant_of-self-2
 invariant_of-self-2 g c =
