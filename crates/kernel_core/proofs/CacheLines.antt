@@ -1,10 +1,10 @@
 -- The event of a line for a name service cache: it is counted, nothing else changes, and nobody is woken.
-use Rattle.std.proofs.Common.{◌≡◌, ℕ, zero, suc, ◌++◌, ◌&&◌, Bool, true, false, not, if◌then◌else◌, List, [], ◌∷◌, Some, Result, Ok, Err, IfOk, length, refl, sym, ap, ap₂, ◌∙◌}
+use Rattle.std.proofs.Common.{◌≡◌, ℕ, zero, suc, ◌++◌, ◌&&◌, Bool, true, false, not, if◌then◌else◌, List, [], ◌∷◌, Some, length, refl, sym, ap, ap₂, ◌∙◌}
 use Rattle.dk_base.specs.declared.answer.Answer.TheVariants as answer
 use Rattle.dk_base.specs.declared.number.Tid.{Tid}
 use Rattle.dk_base.specs.declared.request.Request.TheVariants as request
 use Rattle.kernel_records.specs.Words.{tid}
-use Rattle.written_kernel.specs.Types.{NoMemory, Request, Stepped}
+use Rattle.written_kernel.specs.Types.{Request, Stepped}
 use Rattle.written_kernel.specs.Words.{IsStep, State, act, forget, is_runnable, step, with_event_counted, woken_among, woken_threads}
 use Rattle.kernel_core.specs.Entries.{is_cache_line}
 use Rattle.kernel_core.specs.Kept.{HasNothingPast}
@@ -14,7 +14,7 @@ pub line_changes_nothing : (m : State) (t : ℕ) (r : Request) → is_cache_line
 line_changes_nothing m t (request.Ncd line) e = refl
 line_changes_nothing m t r e = cc
 
-pub line_answer : (m : State) (t : ℕ) (r : Request) → is_cache_line r ≡ true → (step m t (Some r)).answer ≡ answer.Data []
+line_answer : (m : State) (t : ℕ) (r : Request) → is_cache_line r ≡ true → (step m t (Some r)).answer ≡ answer.Data []
 unfolding step
 line_answer m t (request.Ncd line) e = refl
 line_answer m t r e = cc
@@ -37,10 +37,3 @@ line_step m new t r s line none_past counts counted answered woken =
       answer = answered ∙ sym (line_answer m t r line);
       woken = woken ∙ sym (none_woken m (length m.process_table.threads)) ∙ ap (woken_threads m) (sym counts);
     }
-
--- of a result
-pub line_answered :
-    (kept new : State) (t : ℕ) (r : Request) (o : Result Stepped NoMemory) → IfOk o (λ s. IsStep (step kept t (Some r)) new s) → is_cache_line r ≡ true →
-    IfOk o (λ s. s.answer ≡ answer.Data [])
-line_answered kept new t r (Ok s) h line = h.answer ∙ line_answer kept t r line
-line_answered kept new t r (Err x) h line = tt

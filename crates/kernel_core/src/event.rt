@@ -201,7 +201,6 @@ impl Parts {
         requires counts { is_cache_line request ≡ true → (step (stored_state self.old.store) t.0 (Some request)).state ≡ with_event_counted (stored_state self.old.store) }
         ensures step { IfOk result (λ s. IsStep (step (stored_state self.old.store) t.0 (Some request)) (stored_state self.new.store) s) }
         ensures no_memory { is_cache_line request ≡ true → IsOk result }
-        ensures counted { is_cache_line request ≡ true → stored_state self.new.store ≡ with_event_counted (stored_state self.old.store) }
         ensures made { OnOk result (self.new.store.notices.list.made ≤ self.old.store.notices.list.made + STEP_MAX) }
         ensures err { OnErr result (stored_state self.new.store ≡ stored_state self.old.store) }
         ensures between { IsBetweenEvents self.new }

@@ -1,7 +1,7 @@
-ghost use Rattle.std.specs.Prelude.{ℕ, ◌≡◌, ◌+◌, ◌*◌, ◌<◌, ◌≤◌, ◌↔◌, [], Some, None, true, false, length, IfOk, IsOk, OnOk, OnErr};
+ghost use Rattle.std.specs.Prelude.{ℕ, ◌≡◌, ◌+◌, ◌*◌, ◌<◌, ◌≤◌, ◌↔◌, Some, None, true, false, length, IfOk, IsOk, OnOk, OnErr};
 ghost use Rattle.std.specs.Option.{option_map};
 ghost use Rattle.std.specs.List.{AllByRecursion, list_any};
-ghost use Rattle.dk_base.specs.declared.answer.Answer.TheVariants.{Data, Failure};
+ghost use Rattle.dk_base.specs.declared.answer.Answer.TheVariants.{Failure};
 ghost use Rattle.dk_base.specs.declared.error.ProcFault.TheVariants.{Full};
 ghost use Rattle.written_kernel.specs.Types.{Errno};
 ghost use Rattle.dk_base.specs.declared.limits.TheConstants.{ADVANCE_MAX, DESCRIPTORS_MAX, PROCESSES_MAX, THREADS_MAX, EVENTS_MAX};
@@ -99,8 +99,7 @@ impl Kernel {
     }
 
     /// A kernel entry of a thread that runs. Where it is refused, it answers the refusal and nothing changes but the number
-    /// of events. Want of memory leaves the kernel as it was. A line for a name service cache takes no memory, is answered data without
-    /// bytes, and changes nothing but the number of events.
+    /// of events. Want of memory leaves the kernel as it was. A line for a name service cache takes no memory.
     pub fn enter(&mut self, t: Tid, request: Request) -> Result<Stepped, NoMemory>
         requires running { is_running self.old t.0 ≡ true }
         requires fit { IsFit self.old t.0 request }
@@ -110,8 +109,6 @@ impl Kernel {
         ensures refused_step { (m : State) → StandsFor self.old m → (e : Errno) → refusal_of m t.0 (process_of m t.0) request ≡ Some e → (step m t.0 (Some request)).state ≡ with_event_counted m }
         ensures small { IfOk result (λ s. IsSmall (Some request) s.answer) }
         ensures line { is_cache_line request ≡ true → IsOk result }
-        ensures counted { is_cache_line request ≡ true → self.new ≡ with_event_counted self.old }
-        ensures no_bytes { is_cache_line request ≡ true → IfOk result (λ s. s.answer ≡ Data []) }
         ensures err { OnErr result (self.new ≡ self.old) }
     {
         self.parts.enter(self.alloc, t, request)

@@ -11,6 +11,3 @@ returns-then-is_cache_line-clause-step c =
 
 pub returns-else-is_cache_line-clause-no_memory : goal.returns-else-is_cache_line-clause-no_memory
 returns-else-is_cache_line-clause-no_memory c = λ line. absurd (true≢false (sym line ∙ sym c.is_cache_line.ensures ∙ c.if-is_cache_line.false))
-
-pub returns-else-is_cache_line-clause-counted : goal.returns-else-is_cache_line-clause-counted
-returns-else-is_cache_line-clause-counted c = λ line. absurd (true≢false (sym line ∙ sym c.is_cache_line.ensures ∙ c.if-is_cache_line.false))

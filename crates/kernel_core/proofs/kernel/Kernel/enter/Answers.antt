@@ -1,7 +1,6 @@
-use Rattle.std.proofs.Common.{◌∙◌, Some, ap, subst, sym}
-use Rattle.written_kernel.specs.Words.{IsFit, with_event_counted}
+use Rattle.std.proofs.Common.{◌∙◌, Some, subst, sym}
+use Rattle.written_kernel.specs.Words.{IsFit}
 use Rattle.kernel_store.specs.Words.{stored_state}
-use Rattle.kernel_core.proofs.CacheLines.{line_answered}
 use Rattle.kernel_core.proofs.Forking.{may_fork}
 use Rattle.kernel_core.proofs.Kept.{can_step, kept_result, line_counts, none_lost, noticing, refused_result, refused_stands, turning}
 use Rattle.kernel_core.proofs.Steps.{step_stands, step_within, step_small}
@@ -56,9 +55,3 @@ enter-requires-clause-fit c = subst (λ m. IsFit m c.args.t.0 c.args.request) (s
 
 pub enter-requires-clause-counts : goal.enter-requires-clause-counts
 enter-requires-clause-counts c = line_counts (stored_state c.self.inside.parts.store) c.args.t.0 c.args.request c.self.invariant.0
-
-pub returns-clause-counted : goal.returns-clause-counted
-returns-clause-counted c = λ line. c.enter.ensures.counted line ∙ ap with_event_counted c.self.view_is
-
-pub returns-clause-no_bytes : goal.returns-clause-no_bytes
-returns-clause-no_bytes c = line_answered (stored_state c.self.inside.parts.store) (stored_state c.enter.new.self.store) c.args.t.0 c.args.request c.enter.result c.enter.ensures.step
