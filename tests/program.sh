@@ -589,8 +589,8 @@ usage() {
 words() {
     told "no command is given"
     told "there is no command 'walk': there are play, run, show, check and load" walk
-    told "there is no command 'plai': did you mean 'play'?" plai
-    told "there is no command 'Run': did you mean 'run'?" Run
+    told "there is no command 'plai': there are play, run, show, check and load" plai
+    told "there is no command 'Run': there are play, run, show, check and load" Run
     told "'try.doors' is a word too many: the input is no word, but comes after '<', as in: doors play < FILE" play try.doors
     told "'script' is a word too many: the input is no word, but comes after '<', as in: doors play < FILE" check script trace
     told "after 'load' one word stands, a number from 1 to 16000" load

@@ -332,27 +332,27 @@ hunts() {
     hunts_real
 }
 
-# Patterns for tests/tools/fits.doors, each with the word that is told, and the one that is meant; and such as are not told.
+# Patterns for tests/tools/fits.doors, each with the word that is told; and such as are not told.
 misspelled='
-colect EINTR|colect|collect
-colect|colect|collect
-ann colect|colect|collect
-an collect EINTR|an|ann
-collect EINT|EINT|EINTR
-collect EITNR|EITNR|EINTR
-collect E|E|
-ann interupt|interupt|interrupt
-end staled|staled|stalled
-^end stale|stale|
-anne collect EINTR|anne|ann
-an interrupt ok|an|ann
-collect (EINT|EBADF)|EINT|EINTR
-ann accept enter c1 fetsh 7|fetsh|fetch
-karl call wait|karl|
-fetch collect ok|fetch|
-^[0-9]+ ann ann collect EINTTR$|EINTTR|EINTR
+colect EINTR|colect
+an collect EINTR|an
+collect EINT|EINT
+collect EITNR|EITNR
+collect E|E
+^end stale|stale
+anne collect EINTR|anne
+an interrupt ok|an
+collect (EINT|EBADF)|EINT
+ann accept enter c1 fetsh 7|fetsh
+karl call wait|karl
+fetch collect ok|fetch
+^[0-9]+ ann ann collect EINTTR$|EINTTR
 '
 not_told='
+colect
+ann colect
+ann interupt
+end staled
 ann collect EINTR
 ann collect EINT.*
 ann collect E(INTR|BADF)
@@ -372,12 +372,11 @@ hunts_misspelled() {
     for AWK in $(awks); do
         export AWK
         echo "$misspelled" | grep . >"$work/rows"
-        # a bar within the pattern stands before the last two
-        sed 's/|\([^|]*\)|\([^|]*\)$/\t\1\t\2/' "$work/rows" >"$work/cells"
-        while IFS="$(printf '\t')" read -r pattern word meant; do
+        # a bar within the pattern stands before the last
+        sed 's/|\([^|]*\)$/\t\1/' "$work/rows" >"$work/cells"
+        while IFS="$(printf '\t')" read -r pattern word; do
             hunted -n 1 "$pattern" "$top/$fits"
             refused "hunt of $pattern with $(basename "$AWK")" 3 "fits.doors: $word: "
-            if [ -n "$meant" ] && ! grep -q -F -e "; did you mean '$meant'?" "$work/err"; then fail "hunt of $pattern" "no hint '$meant'"; fi
         done <"$work/cells"
         echo "$not_told" | grep . >"$work/rows"
         cat tests/tools/fits.trace >>"$work/rows"

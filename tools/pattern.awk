@@ -3,14 +3,11 @@
 #
 # Words are compared whole: what blanks, brackets, bars and the ends of the pattern enclose, outside of quotes. They are looked at in
 # a pattern that has the word of an event or begins with `^end`; and, where it is plain words and no expression, in one that has an
-# error or the answer `wait` or `ok`, or a word one letter off one that traces have. Others may be for data.
+# error or the answer `wait` or `ok`. Others may be for data.
 
 function gather(list, into,    part, n, i) {
     n = split(list, part, " ")
-    for (i = 1; i <= n; i++) {
-        into[part[i]] = 1
-        known[++count] = part[i]
-    }
+    for (i = 1; i <= n; i++) into[part[i]] = 1
 }
 
 BEGIN {
@@ -53,25 +50,10 @@ function is_words(pattern) {
 
 function is_known(word) { return (word in is_event) || (word in is_other) || (word in in_script) }
 
-# Whether one letter makes the difference: one more, one less, another one, or two that changed places.
-function is_near(a, b,    i) {
-    if (a == b) return 0
-    for (i = 1; substr(a, i, 1) == substr(b, i, 1);) i++
-    return substr(a, i) == substr(b, i + 1) || substr(a, i + 1) == substr(b, i) || substr(a, i + 1) == substr(b, i + 1) ||
-        (substr(a, i, 1) == substr(b, i + 1, 1) && substr(a, i + 1, 1) == substr(b, i, 1) && substr(a, i + 2) == substr(b, i + 2))
-}
-
-# The last name or word of traces, of so many letters or more, that is one letter off; nothing where there is none.
-function near(word, letters,    i) {
-    for (i = count; i > 0; i--) if (length(known[i]) >= letters && is_near(word, known[i])) return known[i]
-    return ""
-}
-
 function is_judged(word) {
     if (word in is_event) return 1
     if (!words_alone) return 0
-    return word == "wait" || word == "ok" || (word ~ /^E[A-Z0-9]+$/ && word in is_other) ||
-        (word ~ /^[A-Za-z_]+$/ && length(word) > 3 && !is_known(word) && near(word, 4) != "")
+    return word == "wait" || word == "ok" || (word ~ /^E[A-Z0-9]+$/ && word in is_other)
 }
 
 function is_whole_name(name) { return name ~ /^[a-z][a-z0-9_]*$/ && name !~ /^[cn][0-9]+$/ && !(name in is_event) && !(name in is_other) }
@@ -82,11 +64,6 @@ function is_no_thread(i) {
     return i == 2 || part[i - 2] == "(" || part[i - 2] == "|" || is_whole_name(part[i - 2])
 }
 
-function hint(word,    meant) {
-    meant = near(word, 3)
-    return meant == "" ? "" : "; did you mean '" meant "'?"
-}
-
 END {
     pattern = plain(ENVIRON["PATTERN"])
     words_alone = is_words(ENVIRON["PATTERN"])
@@ -95,11 +72,11 @@ END {
     for (i = 1; i <= n; i++) if (is_judged(part[i])) judged = 1
     for (i = 1; judged && i <= n; i++) {
         if (part[i] ~ /^[A-Za-z][A-Za-z0-9_]*$/ && part[i] !~ /^[cn][0-9]+$/ && !is_known(part[i])) {
-            print part[i] ": neither the script nor a trace has this word" hint(part[i])
+            print part[i] ": neither the script nor a trace has this word"
             exit
         }
         if (is_no_thread(i)) {
-            print part[i - 1] ": there is no such thread" hint(part[i - 1])
+            print part[i - 1] ": there is no such thread"
             exit
         }
     }

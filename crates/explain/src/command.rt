@@ -1,7 +1,6 @@
 //! Words of the command line that are no command.
 
 use crate::messages::{Message, Said, tell};
-use crate::near::is_near;
 use crate::report::Report;
 use crate::rule::is_same;
 
@@ -14,14 +13,9 @@ pub(crate) fn tell_words(report: &mut Report, words: &[&str]) {
     }
     let name = words[0].as_bytes();
     let mut said = Said::UnknownCommand;
-    let mut near = name;
     for command in &COMMANDS {
-        let command = *command;
         if is_same(name, command) {
             said = Said::WordTooMany;
-        } else if is_near(name, command) {
-            said = Said::NearlyCommand;
-            near = command;
         }
     }
     if is_same(name, b"load") {
@@ -37,7 +31,7 @@ pub(crate) fn tell_words(report: &mut Report, words: &[&str]) {
     let message = Message {
         said,
         name,
-        word: near,
+        word: name,
         by,
         event: 0,
         number: 0,

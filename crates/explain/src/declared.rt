@@ -1,7 +1,6 @@
 //! The names that the lines of a text declare.
 
 use crate::form::Role;
-use crate::near::is_near;
 use crate::outline::{Walk, line_at};
 use crate::report::Report;
 use crate::rule::is_same;
@@ -24,8 +23,6 @@ pub(crate) enum Sought {
     After(u64),
     /// This one.
     Same,
-    /// Those that are nearly this one.
-    Near,
 }
 
 /// The line that first declares such a name for the line `at`; 0 where there is none. Of procedures those count that are of the
@@ -43,7 +40,6 @@ pub(crate) fn declaration_of(at: &Walk<'_>, kind: Kind, sought: Sought, name: &[
             let is_sought = match sought {
                 Sought::After(line) => walk.number > line,
                 Sought::Same => is_same(declared, name),
-                Sought::Near => is_near(declared, name),
             };
             if is_sought {
                 return walk.number;

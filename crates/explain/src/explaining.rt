@@ -3,7 +3,6 @@
 use crate::bad_line::{BadLine, bad_line_of, number_of, tell_bad_line, tell_joined};
 use crate::command::tell_words;
 use crate::messages::{Said, tell};
-use crate::near::without_front;
 use crate::outline::line_at;
 use crate::player::Player;
 use crate::report::Report;
@@ -55,6 +54,11 @@ fn tell_taken(report: &mut Report, run: &Run<'_>, trace: Trace<'_>, status: u8) 
 /// `want` and `have` take so many bytes of a line of an answer, with the space after them.
 const NAMED: usize = 5;
 
+/// What stands after `want` or `have` in a line of an answer.
+fn after_named(line: &[u8]) -> &[u8] {
+    line.split_at(NAMED.min(line.len())).1
+}
+
 /// What is said of a run, by its script, the trace that `check` was given, and what a command answered. The run is taken again, but for
 /// a trace in which no turn is wanted.
 fn tell_run<'a, P: Player>(
@@ -75,8 +79,8 @@ fn tell_run<'a, P: Player>(
     if let Some(given) = given {
         trace.text = given;
         trace.line = number_of(word_at(line_at(output, 1), 2));
-        trace.want = without_front(line_at(output, 2), NAMED);
-        trace.have = without_front(line_at(output, 3), NAMED);
+        trace.want = after_named(line_at(output, 2));
+        trace.have = after_named(line_at(output, 3));
     }
     if status == 9 && !is_same(trace.want, b"turn") {
         return tell_other(report, trace);

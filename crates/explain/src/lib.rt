@@ -12,7 +12,6 @@ mod form;
 mod messages;
 mod names;
 mod names_told;
-mod near;
 mod operand;
 mod operands_told;
 mod outline;

@@ -11,7 +11,6 @@ pub(crate) enum Said {
     NoIdle,
     NoCommand,
     UnknownCommand,
-    NearlyCommand,
     WordTooMany,
     WrongLoad,
     LoadTakesOne,
@@ -59,7 +58,6 @@ pub(crate) enum Said {
     AttachFailed,
     AttachToCome,
     NotAttached,
-    NearlyAttached,
     AtPort,
     AtPortForMany,
     /// It has no row.
@@ -73,7 +71,6 @@ doors: no thread can go on|
     no thread waits for calls|
     no command is given|
     there is no command '~': there are play, run, show, check and load|
-    there is no command '~': did you mean '@'?|
     '^' is a word too many: the input is no word, but comes after '<', as in: doors play < FILE|
     '^' is no N of 'load N': N is a number from 1 to 16000, without a sign or zeros before it|
     after 'load' one word stands, a number from 1 to 16000|
@@ -121,7 +118,6 @@ there is no thread '~'|
 '~' waits for path '@' since event #; the 'attach' of event & answered ^|
 '~' waits for path '@' since event #; line & attaches it, and no thread has come there|
 '~' waits for path '@' since event #; no line attaches it|
-'~' waits for path '@' since event #; no line attaches it: did you mean '^'?|
 '~' waits since event # at the port that was descriptor % then|
 '~' waits since event # for & events at the port that was descriptor % then|
 ";
@@ -132,9 +128,9 @@ pub(crate) struct Message<'a> {
     pub said: Said,
     /// The thread or the word that it is about: a `~`.
     pub name: &'a [u8],
-    /// A path, a process, another thread or command: a `@`.
+    /// A path, a process or another thread: a `@`.
     pub word: &'a [u8],
-    /// An error, or another path: a `^`.
+    /// An error, a word or another thread: a `^`.
     pub by: &'a [u8],
     /// An event or a line: a `#`.
     pub event: u64,

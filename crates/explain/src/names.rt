@@ -1,7 +1,5 @@
 //! Lists of names.
 
-use crate::near::is_near;
-
 /// Different names, in order. Where memory ran out for one, it is not there.
 #[derive(Drop)]
 pub struct Names<'a> {
@@ -10,17 +8,6 @@ pub struct Names<'a> {
 }
 
 impl<'a> Names<'a> {
-    /// The first that is nearly this one, without bytes where there is none.
-    pub fn near(&self, name: &[u8]) -> &'a [u8] {
-        for other in self.list.as_slice() {
-            let other = *other;
-            if is_near(other, name) {
-                return other;
-            }
-        }
-        &[]
-    }
-
     /// Adds a name. Whether it was not there.
     pub fn add(&mut self, name: &'a [u8]) -> bool {
         if self.list.contains(&name) {

@@ -20,27 +20,20 @@ pub(crate) fn find_twice(case: &mut Case<'_, '_>) {
     case.other = declaration_of(at, kind, Sought::Same, case.found.word);
 }
 
-/// Notes what was meant by a name that is not declared: one that is nearly the same, or one of another kind, by the first word of the
+/// Notes which names are declared, and of a name that is not declared so whether it is one of another kind, by the first word of the
 /// line that declares it.
-fn find_meant_name(case: &mut Case<'_, '_>) {
+fn find_other_kind(case: &mut Case<'_, '_>) {
     let at = case.at;
     let name = case.found.word;
-    let mut topic = Topic::Near;
-    let mut place = 1;
-    let mut line = declaration_of(at, case.kind, Sought::Near, name);
+    let mut line = declaration_of(at, Kind::Process, Sought::Same, name);
     if line == 0 {
-        topic = Topic::Named;
-        place = 0;
-        line = declaration_of(at, Kind::Process, Sought::Same, name);
-        if line == 0 {
-            line = declaration_of(at, Kind::Thread, Sought::Same, name);
-        }
-        if line == 0 {
-            line = declaration_of(at, Kind::Procedure, Sought::Same, name);
-        }
+        line = declaration_of(at, Kind::Thread, Sought::Same, name);
     }
-    case.note = topic;
-    case.note_for = word_at(line_at(at.text, line), place);
+    if line == 0 {
+        line = declaration_of(at, Kind::Procedure, Sought::Same, name);
+    }
+    case.note = Topic::Named;
+    case.note_for = word_at(line_at(at.text, line), 0);
 }
 
 /// Of a line that names what is not declared; of the names of a `schedule` it is the first.
@@ -71,7 +64,7 @@ pub(crate) fn find_unknown(case: &mut Case<'_, '_>) {
         case.other = declaration_of(at, kind, Sought::Same, found.word);
         if case.other == 0 {
             case.said = Topic::Undeclared;
-            return find_meant_name(case);
+            return find_other_kind(case);
         }
         if !matches!(at.form.role, Role::Schedule) {
             case.said = Topic::Declared;

@@ -23,7 +23,6 @@ pub(crate) enum Topic {
     Undeclared,
     Declared,
     Named,
-    Near,
     NoWord,
     Lone,
     Brackets,
@@ -34,7 +33,6 @@ pub(crate) enum Topic {
     OperandForm,
     Unreached,
     Unset,
-    NearVariable,
     Line,
     Unclosed,
     Escaped,
@@ -64,7 +62,6 @@ twice
 undeclared
 declared
 named
-near
 no-word
 lone
 brackets
@@ -75,7 +72,6 @@ operand
 operand-form
 unreached
 unset
-near-variable
 line
 unclosed
 escaped
@@ -120,7 +116,6 @@ named|=proc|    '%w' is a procedure%e    declared:%d%e
 named||    declared:%d%e
 declared|=child|doors: line %n: '%w' is declared in line %o, and is to be in an earlier one%e%s    the form: child NAME of PARENT, in a line after that of PARENT%e
 declared||doors: line %n: '%w' is no child of process '%p'%e%s    line %o declares it; what 'fork' begins is declared with 'child NAME of PARENT'%e
-near||    did you mean '%k'?%e
 no-word||doors: line %n: no line begins with '%w'%e%s
 lone||    only 'doors check' takes a trace after the script, behind a line 'trace' with its line feed%e
 brackets||    words stand between spaces, without brackets, commas and semicolons%e
@@ -157,7 +152,6 @@ operand-form||%e%s    the form: %f%e    %u%e
 unreached|=serve|doors: warning: line %n: this line is never reached: 'serve' stands in line %o%e    %l%e    a thread that serves runs procedures, and not the lines after 'serve'%e
 unreached|=exit|doors: warning: line %n: this line is never reached: 'exit' stands in line %o%e    %l%e
 unset||doors: warning: line %n: no line of this body sets '%k'%e%s
-near-variable||    did you mean '$%k'?%e
 line|=endif fi done|    a block ends with 'end'%e
 line|=trace|    before a trace stands a line that is exactly 'trace', without spaces%e
 line|=else|    there is no 'else': write a second 'if'%e

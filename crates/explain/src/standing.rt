@@ -2,7 +2,6 @@
 
 use crate::acts::Act;
 use crate::messages::{Message, Said};
-use crate::near::is_near;
 use crate::outline::Lines;
 use crate::rule::{is_listed, is_same};
 use crate::run::{Run, Thread};
@@ -17,13 +16,9 @@ fn set_attached<'a>(told: &mut Message<'a>, text: &'a [u8]) {
         if !is_listed(b"attach", word_at(lines.line, 0)) {
             continue;
         }
-        let path = word_at(lines.line, 2);
-        if is_same(path, told.word) {
+        if is_same(word_at(lines.line, 2), told.word) {
             told.said = Said::AttachToCome;
             told.other = lines.number;
-        } else if !matches!(told.said, Said::AttachToCome) && is_near(path, told.word) {
-            told.said = Said::NearlyAttached;
-            told.by = path;
         }
     }
 }

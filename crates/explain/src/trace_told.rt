@@ -1,7 +1,6 @@
 //! Traces that are not legal.
 
 use crate::messages::{Message, Said, tell};
-use crate::near::front;
 use crate::report::Report;
 use crate::rule::{begins_with_digit, is_same};
 use crate::run::Run;
@@ -16,6 +15,16 @@ pub(crate) struct Trace<'a> {
     pub line: u64,
     pub want: &'a [u8],
     pub have: &'a [u8],
+}
+
+/// How many bytes both lines begin with.
+fn front(one: &[u8], other: &[u8]) -> usize {
+    let shorter = one.len().min(other.len());
+    let mut count = 0;
+    while count < shorter && one[count] == other[count] {
+        count += 1;
+    }
+    count
 }
 
 /// No event can stand in the line.

@@ -57,11 +57,6 @@ impl<'a> Warner<'a> {
             self.left -= 1;
             case.said = Topic::Unset;
             case.said_for = name;
-            case.note = Topic::Nothing;
-            case.note_for = self.names.near(name);
-            if !case.note_for.is_empty() {
-                case.note = Topic::NearVariable;
-            }
             case.tell(report);
         }
     }
