@@ -1,36 +1,23 @@
-//! The kernel for C, which holds it with its history by a handle.
+//! The kernel for C, which holds it with its history by a handle: the functions that C calls. What they do is in `kernel_chronicle`.
 #![tactic(auto)]
 
 ghost use Rattle.std.specs.Prelude.{◌≡◌, ◌<◌, ◌≤◌, ◌++◌, ◌∷◌, [], None, Some, length, take};
 ghost use Rattle.written_kernel.specs.Words.{is_runnable, state_of};
 ghost use Rattle.spec_histories.specs.Histories.{IsHistory, end};
 ghost use Rattle.history_text.specs.HeadText.{head_text};
-ghost use Rattle.kernel_c.specs.Declarations.{IsBadDeclaration, IsDeclared};
-ghost use Rattle.kernel_c.specs.Endings.{end_line_text};
-ghost use Rattle.kernel_c.specs.Handles.{held};
-ghost use Rattle.kernel_c.specs.Openings.{HasNoHeadRoom, IsNoStart, names_of, opened, shapes_of};
-ghost use Rattle.kernel_c.specs.Replies.{flag_number};
-ghost use Rattle.kernel_c.specs.Statuses.{state_number};
-ghost use Rattle.kernel_c.specs.Written.{HasNoRoom, IsAnswered, IsEntered, IsReasonOfEnter, IsReasonOfGoOn, Written};
+ghost use Rattle.kernel_chronicle.specs.Declarations.{IsBadDeclaration, IsDeclared};
+ghost use Rattle.kernel_chronicle.specs.Endings.{end_line_text};
+ghost use Rattle.kernel_chronicle.specs.Handles.{held};
+ghost use Rattle.kernel_chronicle.specs.Openings.{HasNoHeadRoom, IsNoStart, names_of, opened, shapes_of};
+ghost use Rattle.kernel_chronicle.specs.Replies.{flag_number};
+ghost use Rattle.kernel_chronicle.specs.Statuses.{state_number};
+ghost use Rattle.kernel_chronicle.specs.Written.{HasNoRoom, IsAnswered, IsEntered, IsReasonOfEnter, IsReasonOfGoOn, Written};
 
-mod asked;
-mod asking;
-mod chronicle;
-mod declaring;
-mod handle;
-mod loose;
-mod opening;
-mod refusal;
-mod reply;
-mod rooms;
-mod status;
-mod turns;
-
-use crate::asked::{Asked, Declared};
-use crate::chronicle::Chronicle;
-use crate::handle::Handle;
-use crate::rooms::{BYTES_ROOM, REPLY_ROOM, TEXT_ROOM};
-use crate::status::{NO_MEMORY, number_of_unopened};
+use kernel_chronicle::asked::{Asked, Declared};
+use kernel_chronicle::chronicle::Chronicle;
+use kernel_chronicle::handle::Handle;
+use kernel_chronicle::rooms::{BYTES_ROOM, REPLY_ROOM, TEXT_ROOM};
+use kernel_chronicle::status::{NO_MEMORY, number_of_unopened};
 use std::alloc::Global;
 use std::mem;
 
@@ -61,7 +48,7 @@ pub extern "C" fn kernel_c_text_room() -> usize
 /// A kernel of these processes. 0 where there is one, and the head of its history stands in `text`; else the handle, which is to be empty,
 /// stays so.
 #[unsafe(no_mangle)]
-#[tactic(auto, using(crate::proofs::Unopenings::no_start, crate::proofs::Unopenings::no_head_room, crate::proofs::Unopenings::never_done))]
+#[tactic(auto, using(kernel_chronicle::proofs::Unopenings::no_start, kernel_chronicle::proofs::Unopenings::no_head_room, kernel_chronicle::proofs::Unopenings::never_done))]
 pub extern "C" fn kernel_c_new(
     out: &mut Handle,
     alloc: Global,

@@ -1,4 +1,4 @@
-use Rattle.kernel_c.specs.Handles.{held}
+use Rattle.kernel_chronicle.specs.Handles.{held}
 use Rattle.kernel_c.proofs.kernel_c_end.Given as goal
 
 abbrev pub ghost-into_box : goal.ghost-into_box

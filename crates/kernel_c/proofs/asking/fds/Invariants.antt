@@ -1,7 +1,0 @@
-use Rattle.std.proofs.Common.{◌≡◌, take}
-use Rattle.kernel_c.specs.Asks.{fds_of}
-use Rattle.kernel_c.proofs.asking.fds.Given as goal
-
-abbrev pub invariant-loop-item : goal.invariant-loop-item
-invariant-loop-item l =
-    l.list ≡ fds_of (take l.item-index l.items)
