@@ -1,3 +1,4 @@
+//! The exit statuses of `doorlab`.
 ghost use Rattle.std.specs.Prelude.{◌≡◌};
 ghost use Rattle.std.specs.Option.{option_copied};
 ghost use Rattle.doorlab.specs.Status.{status_code, status_message};

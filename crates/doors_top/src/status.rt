@@ -1,3 +1,4 @@
+//! The exit statuses of `doors`.
 ghost use Rattle.std.specs.Prelude.{◌≡◌};
 ghost use Rattle.std.specs.Option.{option_copied};
 ghost use Rattle.doors_top.specs.Status.{status_code, status_message, status_of_ending};

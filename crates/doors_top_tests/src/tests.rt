@@ -1,3 +1,4 @@
+//! The top call over sources and sinks that give and take little, and that fail.
 ghost use Rattle.std.specs.Prelude.{◌≤◌};
 
 mod failing;

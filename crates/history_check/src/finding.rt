@@ -1,3 +1,5 @@
+//! What is found at one line of a history.
+
 use dk_base::list::Bytes;
 use script_line::reason::Reason;
 

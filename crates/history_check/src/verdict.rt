@@ -1,3 +1,5 @@
+//! Verdicts on the text of a history.
+
 use dk_base::list::Bytes;
 use script_line::reason::Reason;
 

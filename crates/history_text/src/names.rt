@@ -1,3 +1,5 @@
+//! What the lines of a history have declared: processes, threads, procedures and paths by name.
+
 use crate::named::{
     NamedProcedure, NamedProcess, NamedThread, place_of_procedure, place_of_process,
     place_of_thread, place_of_used_name,

@@ -1,3 +1,5 @@
+//! Worked rows: turns of the kernel, what each is answered and whom it wakes.
+
 use crate::turns::{
     ALERT, CLIENT, DUE_ONCE, DUE_SEVEN, DUE_THRICE, EVENT, Entry, Gives, Row, SERVER, Turn,
     right_turns_of_fork, right_turns_of_new,

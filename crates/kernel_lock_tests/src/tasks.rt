@@ -1,3 +1,5 @@
+//! Tasks of runs that several threads take: computed, and dropped.
+
 use crate::runs::{Besides, Expected, reaches, run_is};
 use dk_base::number::Tid;
 use dk_base::outside::{Gate, NoGate};

@@ -1,3 +1,5 @@
+//! Runs whose turns several threads take: how they end, and who has arrived.
+
 use crate::runs::{Besides, Expected, reaches, run_is};
 use dk_base::number::Tid;
 use dk_base::outside::{Gate, NoGate};

@@ -1,3 +1,4 @@
+//! Scripts of loads, and the lines that tell of their runs.
 ghost use Rattle.std.specs.Prelude.{◌≡◌, []};
 
 use load_gen::{CALLS_MAX, generate, summary};

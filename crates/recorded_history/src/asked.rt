@@ -1,3 +1,5 @@
+//! What is asked of a kernel whose turns are a history.
+
 use dk_base::answer::Answer;
 use dk_base::error::NoMemory;
 use dk_base::event::What;

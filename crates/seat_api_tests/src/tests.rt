@@ -1,3 +1,5 @@
+//! Runs of threads of the host at seats, each with what it is to end in.
+
 use crate::seated::{Deed, is_done};
 
 /// Two processes with one thread each.

@@ -1,3 +1,5 @@
+//! Names for the states from which histories of seats begin.
+
 use std::marker::Brand;
 
 /// A name for the state from which a history is legal. A caller picks it where it makes the seats.

@@ -1,3 +1,4 @@
+//! A run of a script: its kernel, where its threads stand, its name tables, and the journal of its events, one turn at a time.
 ghost use Rattle.std.specs.Prelude.{◌≡◌, ◌↔◌, IsTrue, ℕ, ◌+◌, ◌<◌, ◌≤◌, [], length, slice_get, Some, IfOk, option_map, OnOk, OnErr, take, true, false, All};
 ghost use Rattle.dk_base.specs.declared.limits.TheConstants.{BUDGET_MAX};
 ghost use Rattle.written_kernel.specs.Words.{is_runnable, state_of, waiting_threads};

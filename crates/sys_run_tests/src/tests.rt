@@ -1,3 +1,4 @@
+//! Runs of whole scripts: what is done with them, and how they end.
 ghost use Rattle.std.specs.Prelude.{◌≡◌, []};
 
 use dk_base::answer::Answer;

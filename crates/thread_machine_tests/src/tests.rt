@@ -1,3 +1,4 @@
+//! Where a thread stands in its script, row by row.
 ghost use Rattle.std.specs.Prelude.{◌≡◌, ◌≤◌, length};
 ghost use Rattle.thread_machine.specs.Words.{IsMachine};
 

@@ -1,3 +1,5 @@
+//! Traces and their verdicts as text.
+
 use script_lang::parse::parse;
 use script_lang::script::Script;
 use std::alloc::Global;

@@ -1,3 +1,5 @@
+//! The lines of traces.
+
 use dk_base::answer::{Answer, DoorInfo};
 use dk_base::error::{Errno, NoMemory};
 use dk_base::event::{Event, What};

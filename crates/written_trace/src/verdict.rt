@@ -1,3 +1,5 @@
+//! Verdicts on traces.
+
 use dk_base::list::Bytes;
 
 /// What a trace is found to be.
