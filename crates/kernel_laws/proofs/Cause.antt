@@ -20,7 +20,7 @@ use Rattle.kernel_invariant.specs.Arrows.Interrupts.{asked, forked as forked_by}
 use Rattle.kernel_invariant.specs.Arrows.EndsBy.{door_invalid as invalid, server_full as full, interrupted as by_caller, server_ended as by_server}
 use Rattle.run_places.specs.Places.{IsCollect, IsRefusedBy, ReturnsCall, answer_at, process_at}
 use Rattle.kernel_laws.specs.Once.{FailsToEnter}
-use Rattle.kernel_laws.specs.Cause.{AreOfOneKind, Cause, HasCause, HasRoomAt, HasTooFewAt, IsCall, IsCaused, Leaves, MakesOne, TellsSame}
+use Rattle.kernel_laws.specs.Cause.{Cause, HasCause, HasRoomAt, HasTooFewAt, IsCall, IsCaused, Leaves, MakesOne, TellsSame, kind_of}
 use Rattle.kernel_laws.specs.Cause.Cause.{results, caller_full, server_full, door_invalid, interrupted, forked, server_ended}
 use Rattle.run_places.proofs.Refusals.{FailsIn, call_fails, entry_tells, none_of, refusal_at, refusal_of_table, table_of_refusal}
 use Rattle.run_places.proofs.Refusals.FailsIn.{by_test}
@@ -255,9 +255,9 @@ module _ (m : State) (xs : List Turn) (k : Known m xs) where
 
   exact :
       (c e n : ℕ) (z : Turn) (a b : Answer) (p : Cause m xs c e n z a) (q : Cause m xs c e n z b) →
-      TellsSame a b × AreOfOneKind m xs c e n z a b p q
+      TellsSame a b × (kind_of p ≡ kind_of q)
   exact c e n z a b (results r w fds f back room) (results s v fds' g more l) =
-      ((same_bytes, ap (λ l. nat_lt r.rsize (length l)) same_bytes ∙ ap (λ (y : Call). nat_lt y.rsize (length more.bytes)) (same_record _ r s f g)), tt)
+      ((same_bytes, ap (λ l. nat_lt r.rsize (length l)) same_bytes ∙ ap (λ (y : Call). nat_lt y.rsize (length more.bytes)) (same_record _ r s f g)), refl)
     where
       same_bytes : back.bytes ≡ more.bytes
       same_bytes = same_return w.request v.request back.bytes more.bytes back.pass more.pass (same_asked e w v back.turn more.turn) back.is_return.asked more.is_return.asked
@@ -268,7 +268,7 @@ module _ (m : State) (xs : List Turn) (k : Known m xs) where
   exact c e n z a b (results r w fds f back room) (interrupted r' w' h' f' u' q' d') = absurd (not_asked (same_asked e w w' back.turn h') back.is_return.asked q')
   exact c e n z a b (results r w fds f back room) (forked r' w' p' h' f' u' q' y' d' o') = absurd (not_forked (same_asked e w w' back.turn h') back.is_return.asked q')
   exact c e n z a b (results r w fds f back room) (server_ended r' u' f' g' h' d') = absurd (none_ends_at m xs k e w back.turn (ap is_leaving_turn back.is_return.asked) u' h')
-  exact c e n z a b (caller_full r w f back room) (caller_full r' w' f' back' room') = (refl, tt)
+  exact c e n z a b (caller_full r w f back room) (caller_full r' w' f' back' room') = (refl, refl)
   exact c e n z a b (caller_full r w f back room) (server_full r' w' h' q' f' g' y' d') = absurd (given_not_entered _ r' w.thread w'.thread f' g' back.was_entered)
   exact c e n z a b (caller_full r w f back room) (door_invalid r' f' g' v' x' d') = absurd (not_both _ r' w.thread f' g' back.was_entered)
   exact c e n z a b (caller_full r w f back room) (interrupted r' w' h' f' u' q' d') = absurd (not_asked (same_asked e w w' back.turn h') back.is_return.asked q')
@@ -276,7 +276,7 @@ module _ (m : State) (xs : List Turn) (k : Known m xs) where
   exact c e n z a b (caller_full r w f back room) (server_ended r' u' f' g' h' d') = absurd (none_ends_at m xs k e w back.turn (ap is_leaving_turn back.is_return.asked) u' h')
   exact c e n z a b (server_full r w h q f g y d) (results r' w' fds' f' back' room') = absurd (given_not_entered _ r w'.thread w.thread f g back'.was_entered)
   exact c e n z a b (server_full r w h q f g y d) (caller_full r' w' f' back' room') = absurd (given_not_entered _ r w'.thread w.thread f g back'.was_entered)
-  exact c e n z a b (server_full r w h q f g y d) (server_full r' w' h' q' f' g' y' d') = (refl, tt)
+  exact c e n z a b (server_full r w h q f g y d) (server_full r' w' h' q' f' g' y' d') = (refl, refl)
   exact c e n z a b (server_full r w h q f g y d) (door_invalid r' f' g' v' x' d') = absurd (given_not_queued _ r r' w.thread f f' g g')
   exact c e n z a b (server_full r w h q f g y d) (interrupted r' w' h' f' u' q' d') = absurd (none_asked (same_asked e w w' h h') q q')
   exact c e n z a b (server_full r w h q f g y d) (forked r' w' p' h' f' u' q' y' d' o') = absurd (none_forked (same_asked e w w' h h') q q')
@@ -284,7 +284,7 @@ module _ (m : State) (xs : List Turn) (k : Known m xs) where
   exact c e n z a b (door_invalid r f g v x d) (results r' w' fds' f' back' room') = absurd (not_both _ r w'.thread f g back'.was_entered)
   exact c e n z a b (door_invalid r f g v x d) (caller_full r' w' f' back' room') = absurd (not_both _ r w'.thread f g back'.was_entered)
   exact c e n z a b (door_invalid r f g v x d) (server_full r' w' h' q' f' g' y' d') = absurd (given_not_queued _ r' r w'.thread f' f g' g)
-  exact c e n z a b (door_invalid r f g v x d) (door_invalid r' f' g' v' x' d') = (refl, tt)
+  exact c e n z a b (door_invalid r f g v x d) (door_invalid r' f' g' v' x' d') = (refl, refl)
   exact c e n z a b (door_invalid r f g v x d) (interrupted r' w' h' f' u' q' d') = absurd (interrupt_keeps_valid e w' r'.caller.0 r.door h' (asked q') v x)
   exact c e n z a b (door_invalid r f g v x d) (forked r' w' p' h' f' u' q' y' d' o') = absurd (interrupt_keeps_valid e w' r'.caller.0 r.door h' (by_fork e w' r' p' q' y' d' o') v x)
   exact c e n z a b (door_invalid r f g v x d) (server_ended r' u' f' g' h' d') = absurd (queued_not_served _ r r' u' f f' g g')
@@ -292,7 +292,7 @@ module _ (m : State) (xs : List Turn) (k : Known m xs) where
   exact c e n z a b (interrupted r w h f u q d) (caller_full r' w' f' back' room') = absurd (not_asked (same_asked e w' w back'.turn h) back'.is_return.asked q)
   exact c e n z a b (interrupted r w h f u q d) (server_full r' w' h' q' f' g' y' d') = absurd (none_asked (same_asked e w' w h' h) q' q)
   exact c e n z a b (interrupted r w h f u q d) (door_invalid r' f' g' v' x' d') = absurd (interrupt_keeps_valid e w r.caller.0 r'.door h (asked q) v' x')
-  exact c e n z a b (interrupted r w h f u q d) (interrupted r' w' h' f' u' q' d') = (refl, tt)
+  exact c e n z a b (interrupted r w h f u q d) (interrupted r' w' h' f' u' q' d') = (refl, refl)
   exact c e n z a b (interrupted r w h f u q d) (forked r' w' p' h' f' u' q' y' d' o') = absurd (asked_not_forked (same_asked e w w' h h') q q')
   exact c e n z a b (interrupted r w h f u q d) (server_ended r' u' f' g' h' d') = absurd (interrupt_ends_none_at e w r.caller.0 u' h (asked q) h')
   exact c e n z a b (forked r w p h f u q y d o) (results r' w' fds' f' back' room') = absurd (not_forked (same_asked e w' w back'.turn h) back'.is_return.asked q)
@@ -300,7 +300,7 @@ module _ (m : State) (xs : List Turn) (k : Known m xs) where
   exact c e n z a b (forked r w p h f u q y d o) (server_full r' w' h' q' f' g' y' d') = absurd (none_forked (same_asked e w' w h' h) q' q)
   exact c e n z a b (forked r w p h f u q y d o) (door_invalid r' f' g' v' x' d') = absurd (interrupt_keeps_valid e w r.caller.0 r'.door h (by_fork e w r p q y d o) v' x')
   exact c e n z a b (forked r w p h f u q y d o) (interrupted r' w' h' f' u' q' d') = absurd (asked_not_forked (same_asked e w' w h' h) q' q)
-  exact c e n z a b (forked r w p h f u q y d o) (forked r' w' p' h' f' u' q' y' d' o') = (refl, tt)
+  exact c e n z a b (forked r w p h f u q y d o) (forked r' w' p' h' f' u' q' y' d' o') = (refl, refl)
   exact c e n z a b (forked r w p h f u q y d o) (server_ended r' u' f' g' h' d') = absurd (interrupt_ends_none_at e w r.caller.0 u' h (by_fork e w r p q y d o) h')
   exact c e n z a b (server_ended r u f g h d) (results r' w' fds' f' back' room') = absurd (none_ends_at m xs k e w' back'.turn (ap is_leaving_turn back'.is_return.asked) u h)
   exact c e n z a b (server_ended r u f g h d) (caller_full r' w' f' back' room') = absurd (none_ends_at m xs k e w' back'.turn (ap is_leaving_turn back'.is_return.asked) u h)
@@ -308,7 +308,7 @@ module _ (m : State) (xs : List Turn) (k : Known m xs) where
   exact c e n z a b (server_ended r u f g h d) (door_invalid r' f' g' v' x' d') = absurd (queued_not_served _ r' r u f' f g' g)
   exact c e n z a b (server_ended r u f g h d) (interrupted r' w' h' f' u' q' d') = absurd (interrupt_ends_none_at e w' r'.caller.0 u h' (asked q') h)
   exact c e n z a b (server_ended r u f g h d) (forked r' w' p' h' f' u' q' y' d' o') = absurd (interrupt_ends_none_at e w' r'.caller.0 u h' (by_fork e w' r' p' q' y' d' o') h)
-  exact c e n z a b (server_ended r u f g h d) (server_ended r' u' f' g' h' d') = (refl, tt)
+  exact c e n z a b (server_ended r u f g h d) (server_ended r' u' f' g' h' d') = (refl, refl)
 
   -- where there is a cause the call leaves
 

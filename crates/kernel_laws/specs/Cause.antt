@@ -81,17 +81,25 @@ pub data Cause (m : State) (xs : List Turn) (c e k : ℕ) (z : Turn) : Answer �
       (r.stage ≡ stage.Given (tid u)) ⊎ (r.stage ≡ stage.Entered (tid u)) → EndsNow (state_at m xs e) (state_at m xs (e + 1)) u →
       (state_of (state_at m xs (e + 1)) r.caller.0 ≡ is.Done → ⊥) → Cause m xs c e k z (answer.Failure EINTR)
 
--- two causes are of one kind
-abbrev pub AreOfOneKind :
-    (m : State) (xs : List Turn) (c e k : ℕ) (z : Turn) (a b : Answer) → Cause m xs c e k z a → Cause m xs c e k z b → Type 0
-AreOfOneKind m xs c e k z a b (Cause.results r w fds f back room) (Cause.results r' w' fds' f' back' room') = Unit {0}
-AreOfOneKind m xs c e k z a b (Cause.caller_full r w f back room) (Cause.caller_full r' w' f' back' room') = Unit {0}
-AreOfOneKind m xs c e k z a b (Cause.server_full r w h q f g y d) (Cause.server_full r' w' h' q' f' g' y' d') = Unit {0}
-AreOfOneKind m xs c e k z a b (Cause.door_invalid r f g v x d) (Cause.door_invalid r' f' g' v' x' d') = Unit {0}
-AreOfOneKind m xs c e k z a b (Cause.interrupted r w h f u q d) (Cause.interrupted r' w' h' f' u' q' d') = Unit {0}
-AreOfOneKind m xs c e k z a b (Cause.forked r w p h f u q y d o) (Cause.forked r' w' p' h' f' u' q' y' d' o') = Unit {0}
-AreOfOneKind m xs c e k z a b (Cause.server_ended r u f g h d) (Cause.server_ended r' u' f' g' h' d') = Unit {0}
-AreOfOneKind m xs c e k z a b p q = ⊥
+-- the kinds of causes: one for each constructor
+pub data CauseKind : Type 0 where
+  results : CauseKind
+  caller_full : CauseKind
+  server_full : CauseKind
+  door_invalid : CauseKind
+  interrupted : CauseKind
+  forked : CauseKind
+  server_ended : CauseKind
+
+abbrev pub kind_of :
+    {m : State} → {xs : List Turn} → {c e k : ℕ} → {z : Turn} → {a : Answer} → Cause m xs c e k z a → CauseKind
+kind_of (Cause.results _ _ _ _ _ _) = CauseKind.results
+kind_of (Cause.caller_full _ _ _ _ _) = CauseKind.caller_full
+kind_of (Cause.server_full _ _ _ _ _ _ _ _) = CauseKind.server_full
+kind_of (Cause.door_invalid _ _ _ _ _ _) = CauseKind.door_invalid
+kind_of (Cause.interrupted _ _ _ _ _ _ _) = CauseKind.interrupted
+kind_of (Cause.forked _ _ _ _ _ _ _ _ _ _) = CauseKind.forked
+kind_of (Cause.server_ended _ _ _ _ _ _) = CauseKind.server_ended
 
 -- two answers of collects tell the same, but for the numbers of descriptors
 abbrev pub TellsSame : Answer → Answer → Type 0
@@ -117,7 +125,7 @@ pub record HasCause (m : State) (xs : List Turn) : Type 0 where
   -- it has one cause
   pub exact :
       (c e k : ℕ) (z : Turn) (a b : Answer) (p : Cause m xs c e k z a) (q : Cause m xs c e k z b) →
-      TellsSame a b × AreOfOneKind m xs c e k z a b p q
+      TellsSame a b × (kind_of p ≡ kind_of q)
   -- where there is a cause the call leaves, whatever is collected of it later
   pub at_once : (c e k : ℕ) (z : Turn) (a : Answer) → Cause m xs c e k z a → Leaves m xs c e
   -- a call whose caller ended is Gone, or was answered before; one that is live when its caller ends is Gone from then on; and a
