@@ -64,47 +64,54 @@ module _ {E : Type 0} where
   abbrev pub made_of : List (View E) → ℕ
   made_of vs = total (λ v. length v.mine) vs
 
-  -- The place of a view is its number among all views. What a view has of the whole history, by its stage: `holder` tells the place of the view that
-  -- has a ticket.
-  abbrev pub Stands : ℕ → ℕ → List E → (ℕ → ℕ) → ℕ → View E → Stage → Type 0
-  Stands ticket serving log holder j v Out = v.whole ≡ []
-  Stands ticket serving log holder j v (Waits t) = (holder t ≡ j) × (serving ≤ t) × (t < ticket) × (v.whole ≡ [])
-  Stands ticket serving log holder j v (Turn t) = (holder t ≡ j) × (serving ≡ t) × (t < ticket) × (v.whole ≡ log)
-  Stands ticket serving log holder j v (Told t) = (holder t ≡ j) × (serving ≡ t) × (t < ticket) × (v.whole ≡ log) × (v.seen ≡ log)
+-- What the rule knows of the table beside the views. The place of a view is its number among all views.
+pub record Board (E : Type 0) : Type 0 where
+  -- the next ticket, and the ticket that is served
+  pub ticket : ℕ
+  pub serving : ℕ
+  -- the number of the next seat
+  pub next : ℕ
+  -- the history
+  pub log : List E
+  -- the place of the view that has a ticket, and of the seat that has a number
+  pub holder : ℕ → ℕ
+  pub place : ℕ → ℕ
 
--- What holds of the view at a place: `place` tells the place of the seat that has a number.
-pub record Fits {E : Type 0} (seat : E → ℕ) (ticket serving next : ℕ) (log : List E) (holder place : ℕ → ℕ) (j : ℕ) (v : View E) : Type 0 where
-  pub stands : Stands ticket serving log holder j v v.stage
-  pub seen : IsPrefix v.seen log
+-- what the view at place j has of the history, and of its ticket, at a stage
+abbrev pub Stands : {E : Type 0} → Board E → ℕ → View E → Stage → Type 0
+Stands b j v Out = v.whole ≡ []
+Stands b j v (Waits t) = (b.holder t ≡ j) × (b.serving ≤ t) × (t < b.ticket) × (v.whole ≡ [])
+Stands b j v (Turn t) = (b.holder t ≡ j) × (b.serving ≡ t) × (t < b.ticket) × (v.whole ≡ b.log)
+Stands b j v (Told t) = (b.holder t ≡ j) × (b.serving ≡ t) × (t < b.ticket) × (v.whole ≡ b.log) × (v.seen ≡ b.log)
+
+-- what holds of the view at place j
+pub record Fits {E : Type 0} (seat : E → ℕ) (b : Board E) (j : ℕ) (v : View E) : Type 0 where
+  pub stands : Stands b j v v.stage
+  pub seen : IsPrefix v.seen b.log
   pub few : v.draws ≤ CALLS_MAX * v.sits
   -- a draw has an entry, or is pending, or was left without one
   pub made : length v.mine + pending v.stage ≤ v.draws
-  pub mine : v.sits ≡ 1 → (v.mine ≡ by seat v.number log) × (v.number < next) × (place v.number ≡ j)
-  pub keeper : 0 < v.next → (v.next ≡ next) × (j ≡ 0)
-  pub olds : Every (λ xs. IsPrefix xs log × (length xs ≤ length v.seen)) v.olds
+  pub mine : v.sits ≡ 1 → (v.mine ≡ by seat v.number b.log) × (v.number < b.next) × (b.place v.number ≡ j)
+  pub keeper : 0 < v.next → (v.next ≡ b.next) × (j ≡ 0)
+  pub olds : Every (λ xs. IsPrefix xs b.log × (length xs ≤ length v.seen)) v.olds
 
 -- the value is at home, and has this history
 abbrev pub IsHome : {E D : Type 0} → (D → List E) → List E → List (maybe.Option (Option D)) → Type 0
 IsHome {D = D} history log homes = (d : D) × (homes ≡ some (Some d) ∷ []) × (history d ≡ log)
 
--- The rule: `log` is the history, `next` the number of the next seat.
+-- the rule
 pub record Kept {E D : Type 0} (history : D → List E) (seat : E → ℕ) (s : State (Option D) (View E)) : Type 0 where
-  pub log : List E
-  pub ticket : ℕ
-  pub serving : ℕ
-  pub next : ℕ
-  pub holder : ℕ → ℕ
-  pub place : ℕ → ℕ
-  pub words : s.words ≡ ticket ∷ serving ∷ length log ∷ []
-  pub draws : draws_of s.views ≡ ticket
-  pub waiting : waits_of s.views + serving ≡ ticket
-  pub seats : sits_of s.views ≡ next
-  pub made : made_of s.views ≡ length log
-  pub few : next ≤ SEATS_MAX
+  pub board : Board E
+  pub words : s.words ≡ board.ticket ∷ board.serving ∷ length board.log ∷ []
+  pub draws : draws_of s.views ≡ board.ticket
+  pub waiting : waits_of s.views + board.serving ≡ board.ticket
+  pub seats : sits_of s.views ≡ board.next
+  pub made : made_of s.views ≡ length board.log
+  pub few : board.next ≤ SEATS_MAX
   -- a seat that is not yet made has no entry
-  pub later : (n : ℕ) → next ≤ n → by seat n log ≡ []
-  pub home : turns_of s.views ≡ 0 → IsHome history log s.homes
-  pub each : (j : ℕ) (v : View E) → get_elem? s.views j ≡ some v → Fits seat ticket serving next log holder place j v
+  pub later : (n : ℕ) → board.next ≤ n → by seat n board.log ≡ []
+  pub home : turns_of s.views ≡ 0 → IsHome history board.log s.homes
+  pub each : (j : ℕ) (v : View E) → get_elem? s.views j ≡ some v → Fits seat board j v
 
 module _ {E : Type 0} where
   -- a seat that has taken no turn
