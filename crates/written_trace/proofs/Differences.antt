@@ -7,6 +7,7 @@ use Rattle.script_lang.specs.Words.{ScriptValue, spells}
 use Rattle.written_script.specs.Words.{IsAllowed, first_history, run, text_of_history}
 use Rattle.written_trace.specs.declared.verdict.Verdict.TheVariants.{Legal, Differs}
 use Rattle.written_trace.specs.FirstDifferences.{IsFirstDifference, IsNamedTurn, IsOtherTurn, IsWanted, OfEachTrace, lines_through}
+use Rattle.written_trace.specs.FirstDifferences.IsWanted.{named_turn, only_line, nothing, other_turn}
 use Rattle.written_trace.specs.LegalTraces.{IsLegal, IsTextOf, IsTrace}
 use Rattle.written_trace.specs.Verdicts.{end_line_after, verdict, verdict_from}
 use Rattle.written_trace.proofs.Leaving.{IsLeft, IsWantedAfter, OfEachFrom, ReadableFrom, left, trace_from}
@@ -66,12 +67,12 @@ wanted_in_text : (source : List ℕ) (script : ScriptValue) (text : List ℕ) (l
     → line - 1 ≡ k
     → IsWantedAfter script (first_history script) (lines_of text) k want have (lines_of trace) → IsWanted script text line want have trace
 wanted_in_text source script text line k want have trace s place at (inl named) =
-    inl (subst (λ (m : ℕ). IsNamedTurn script want have (slice_get (lines_of trace) m)) (sym at) named)
+    named_turn (subst (λ (m : ℕ). IsNamedTurn script want have (slice_get (lines_of trace) m)) (sym at) named)
 wanted_in_text source script text line k want have trace s place at (inr (inl (no_digit, rest))) =
-    inr (inl (no_digit, each_in_text source script text line k (λ there. there ≡ Some want) s at rest))
-wanted_in_text source script text line k want have trace s place at (inr (inr (inl (e, all)))) = inr (inr (inl (e, omega (arith, place, all))))
+    only_line no_digit (each_in_text source script text line k (λ there. there ≡ Some want) s at rest)
+wanted_in_text source script text line k want have trace s place at (inr (inr (inl (e, all)))) = nothing e (omega (arith, place, all))
 wanted_in_text source script text line k want have trace s place at (inr (inr (inr (e, rest)))) =
-    inr (inr (inr (e, each_in_text source script text line k (IsOtherTurn script have) s at rest)))
+    other_turn e (each_in_text source script text line k (IsOtherTurn script have) s at rest)
 
 legal_not_differs : (n l : ℕ) (want have : List ℕ) → Legal n ≡ Differs l want have → ⊥
 legal_not_differs n l want have e = cc

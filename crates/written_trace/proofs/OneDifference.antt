@@ -12,6 +12,7 @@ use Rattle.written_script.specs.Words.{History, ending_of, first_history, histor
 use Rattle.written_trace.specs.declared.verdict.Verdict.{Verdict}
 use Rattle.written_trace.specs.declared.verdict.Verdict.TheVariants.{Legal, Differs}
 use Rattle.written_trace.specs.FirstDifferences.{IsFirstDifference, IsNamedTurn, IsOtherTurn, IsWanted, line_at, lines_before}
+use Rattle.written_trace.specs.FirstDifferences.IsWanted.{named_turn, only_line, nothing, other_turn}
 use Rattle.written_trace.specs.LegalTraces.{IsLegal}
 use Rattle.written_trace.specs.Turns.{begins_with_digit}
 use Rattle.written_trace.specs.Verdicts.{end_line_after, line_of_turn, verdict}
@@ -184,38 +185,38 @@ module _ (source : List ℕ) (script : ScriptValue) (text : List ℕ) (line : �
 
   one_wanted : (v w first second : List ℕ) → IsNear script text line first → IsNear script text line second → IsWanted script text line v have first
       → IsWanted script text line w have second → v ≡ w
-  one_wanted v w first second is is_second (inl a) (inl b) =
+  one_wanted v w first second is is_second (named_turn a) (named_turn b) =
       legal_one_line source script first second is.events is_second.events (line - 1) v w s is.is_legal is_second.is_legal (is.before ∙ sym is_second.before)
       a.stands a.digit b.stands b.digit
       (a.same ∙ sym b.same)
-  one_wanted v w first second is is_second (inl a) (inr (inl (no_digit, each))) =
+  one_wanted v w first second is is_second (named_turn a) (only_line no_digit each) =
       two_lines (line_at first line) v w a.stands (each first is.events is.is_legal is.before)
-  one_wanted v w first second is is_second (inl a) (inr (inr (inl (e, all)))) = absurd (turn_or_nothing v first second is is_second a all)
-  one_wanted v w first second is is_second (inl a) (inr (inr (inr (e, each)))) =
+  one_wanted v w first second is is_second (named_turn a) (nothing e all) = absurd (turn_or_nothing v first second is is_second a all)
+  one_wanted v w first second is is_second (named_turn a) (other_turn e each) =
       absurd (turn_or_other v v (line_at first line) a (each first is.events is.is_legal is.before))
-  one_wanted v w first second is is_second (inr (inl (no_digit, each))) (inl b) =
+  one_wanted v w first second is is_second (only_line no_digit each) (named_turn b) =
       two_lines (line_at second line) v w (each second is_second.events is_second.is_legal is_second.before) b.stands
-  one_wanted v w first second is is_second (inr (inl (no_digit, each))) (inr (inl (other_no_digit, other_each))) =
+  one_wanted v w first second is is_second (only_line no_digit each) (only_line other_no_digit other_each) =
       two_lines (line_at first line) v w (each first is.events is.is_legal is.before) (other_each first is.events is.is_legal is.before)
-  one_wanted v w first second is is_second (inr (inl (no_digit, each))) (inr (inr (inl (e, all)))) =
+  one_wanted v w first second is is_second (only_line no_digit each) (nothing e all) =
       absurd (none_after second line v all (each second is_second.events is_second.is_legal is_second.before))
-  one_wanted v w first second is is_second (inr (inl (no_digit, each))) (inr (inr (inr (e, other_each)))) =
+  one_wanted v w first second is is_second (only_line no_digit each) (other_turn e other_each) =
       absurd (line_or_other v (line_at first line) no_digit (each first is.events is.is_legal is.before) (other_each first is.events is.is_legal is.before))
-  one_wanted v w first second is is_second (inr (inr (inl (e, all)))) (inl b) = absurd (turn_or_nothing w second first is_second is b all)
-  one_wanted v w first second is is_second (inr (inr (inl (e, all)))) (inr (inl (no_digit, each))) =
+  one_wanted v w first second is is_second (nothing e all) (named_turn b) = absurd (turn_or_nothing w second first is_second is b all)
+  one_wanted v w first second is is_second (nothing e all) (only_line no_digit each) =
       absurd (none_after first line w all (each first is.events is.is_legal is.before))
-  one_wanted v w first second is is_second (inr (inr (inl (e, all)))) (inr (inr (inl (f, others)))) = e ∙ sym f
-  one_wanted v w first second is is_second (inr (inr (inl (e, all)))) (inr (inr (inr (f, each)))) =
+  one_wanted v w first second is is_second (nothing e all) (nothing f others) = e ∙ sym f
+  one_wanted v w first second is is_second (nothing e all) (other_turn f each) =
       let other : IsOtherTurn script have (line_at first line) = each first is.events is.is_legal is.before in
       absurd (none_after first line other.turn all other.stands)
-  one_wanted v w first second is is_second (inr (inr (inr (e, each)))) (inl b) =
+  one_wanted v w first second is is_second (other_turn e each) (named_turn b) =
       absurd (turn_or_other w w (line_at second line) b (each second is_second.events is_second.is_legal is_second.before))
-  one_wanted v w first second is is_second (inr (inr (inr (e, each)))) (inr (inl (no_digit, other_each))) =
+  one_wanted v w first second is is_second (other_turn e each) (only_line no_digit other_each) =
       absurd (line_or_other w (line_at first line) no_digit (other_each first is.events is.is_legal is.before) (each first is.events is.is_legal is.before))
-  one_wanted v w first second is is_second (inr (inr (inr (e, each)))) (inr (inr (inl (f, all)))) =
+  one_wanted v w first second is is_second (other_turn e each) (nothing f all) =
       let other : IsOtherTurn script have (line_at second line) = each second is_second.events is_second.is_legal is_second.before in
       absurd (none_after second line other.turn all other.stands)
-  one_wanted v w first second is is_second (inr (inr (inr (e, each)))) (inr (inr (inr (f, other_each)))) = e ∙ sym f
+  one_wanted v w first second is is_second (other_turn e each) (other_turn f other_each) = e ∙ sym f
 
 near : (script : ScriptValue) (text : List ℕ) (line : ℕ) (want have : List ℕ) → (is : IsFirstDifference script text line want have)
     → IsNear script text line is.trace

@@ -1,5 +1,5 @@
 -- Where a text leaves the traces of legal runs.
-use Rattle.std.specs.Prelude.{ℕ, ◌≡◌, ◌+◌, ◌-◌, ◌≤◌, ◌⊎◌, true, false, List, [], Option, Some, length, take, slice_get, unwrap_or, codes}
+use Rattle.std.specs.Prelude.{ℕ, ◌≡◌, ◌+◌, ◌-◌, ◌≤◌, true, false, List, [], Option, Some, length, take, slice_get, unwrap_or, codes}
 use Rattle.script_text.specs.Words.{lines_of}
 use Rattle.script_lang.specs.Words.{ScriptValue}
 use Rattle.script_requests.specs.Words.{thread_in_line}
@@ -36,16 +36,17 @@ pub record IsNamedTurn (script : ScriptValue) (want have : List ℕ) (there : Op
   pub digit : begins_with_digit want ≡ true
   pub same : thread_in_line script want ≡ thread_in_line script have
 
--- What is wanted at a line, where this trace of a legal run has the text's lines before it. One of these four is so: this trace
--- has there the line of a turn of the thread that the text names; or each such trace has there this line, which is no event's; or
--- this trace has no more lines, and nothing is wanted where the text has one; or each such trace has there another turn than the
--- text names, and `turn` is wanted.
-abbrev pub IsWanted : ScriptValue → List ℕ → ℕ → List ℕ → List ℕ → List ℕ → Type 0
-IsWanted script text line want have trace =
-    IsNamedTurn script want have (line_at trace line)
-    ⊎ (((begins_with_digit want ≡ false) × OfEachTrace script text line (λ there. there ≡ Some want))
-    ⊎ (((want ≡ []) × (length (lines_of trace) + 1 ≡ line))
-    ⊎ ((want ≡ codes "turn") × OfEachTrace script text line (IsOtherTurn script have))))
+-- what is wanted at a line, where this trace of a legal run has the text's lines before it
+pub data IsWanted (script : ScriptValue) (text : List ℕ) (line : ℕ) (want have trace : List ℕ) : Type 0 where
+  -- the trace has there the line of a turn of the thread that the text names
+  named_turn : IsNamedTurn script want have (line_at trace line) → IsWanted script text line want have trace
+  -- each such trace has there this line, which is no event's
+  only_line :
+      begins_with_digit want ≡ false → OfEachTrace script text line (λ there. there ≡ Some want) → IsWanted script text line want have trace
+  -- the trace has no more lines, and nothing is wanted where the text has one
+  nothing : want ≡ [] → length (lines_of trace) + 1 ≡ line → IsWanted script text line want have trace
+  -- each such trace has there another turn than the text names, and `turn` is wanted
+  other_turn : want ≡ codes "turn" → OfEachTrace script text line (IsOtherTurn script have) → IsWanted script text line want have trace
 
 -- this is the first line at which the text leaves all traces of legal runs
 pub record IsFirstDifference (script : ScriptValue) (text : List ℕ) (line : ℕ) (want have : List ℕ) : Type 0 where
