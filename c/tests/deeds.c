@@ -5,8 +5,7 @@
 #include "test.h"
 
 static int door, extra, served;
-static volatile int state;
-static volatile sig_atomic_t told, deeds_done;
+static volatile sig_atomic_t deeds_done;
 static const char *path;
 
 static void do_deeds(int number)

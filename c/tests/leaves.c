@@ -66,7 +66,7 @@ static void leave_a_call(int way)
 	pthread_t self = pthread_self();
 	char answer[64];
 	door_arg_t call = { (char *)&self, sizeof(self), NULL, 0, answer, sizeof(answer) };
-	sigset_t one;
+	sigset_t one, before;
 
 	plainly = way;
 	if (way ? setjmp(without_mask) == 0 : sigsetjmp(with_mask, 1) == 0) {
@@ -77,7 +77,7 @@ static void leave_a_call(int way)
 	/* longjmp leaves the mask as it was in the handler */
 	sigemptyset(&one);
 	sigaddset(&one, SIGUSR1);
-	check(pthread_sigmask(SIG_UNBLOCK, &one, &one) == 0 && sigismember(&one, SIGUSR1) == way);
+	check(pthread_sigmask(SIG_UNBLOCK, &one, &before) == 0 && sigismember(&before, SIGUSR1) == way);
 }
 
 static void have_stack(char *stack)

@@ -7,6 +7,7 @@
  *   signalfd  the same by signalfd and poll
  *   ppoll     main handles them in ppoll and pselect alone
  */
+#define _GNU_SOURCE 1
 #include "test.h"
 
 #include <poll.h>
