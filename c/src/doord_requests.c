@@ -434,6 +434,7 @@ static bool copy_request(struct slot *slot)
 	return files == to->files || to->op == KERNEL_OP_ATTACH;
 }
 
+/* What a request speaks of was sent before its turn came. Its bit may have been set earlier, by the end of the request before. */
 static void take_slot(struct client *client, unsigned index)
 {
 	struct slot *slot = &client->slot[index];
@@ -443,7 +444,7 @@ static void take_slot(struct client *client, unsigned index)
 	if (!slot->is_busy && !slot->is_replied && (turn == WIRE_ASKED || turn == WIRE_ASLEEP)) {
 		slot->is_busy = true;
 		bool is_sound = copy_request(slot);
-		if (slot->request.files > 0)
+		if (slot->request.files > 0 || client->expected > 0)
 			take_messages(client);
 		if (client->is_gone)
 			return;
@@ -457,13 +458,10 @@ static void take_slot(struct client *client, unsigned index)
 		interrupt_slot(slot);
 }
 
-/* What a request speaks of was sent before its bit was set. */
 void take_requests(struct client *client)
 {
 	for (unsigned word = 0; word < WIRE_SLOT_WORDS && !client->is_gone; word++) {
 		uint64_t asked = atomic_exchange(&client->area->asked[word], 0);
-		if (asked && client->expected > 0)
-			take_messages(client);
 		for (unsigned bit = 0; asked; bit++, asked >>= 1)
 			if ((asked & 1) && !client->is_gone && !doord.is_full)
 				take_slot(client, word * 64 + bit);
