@@ -82,7 +82,7 @@ static int server(void)
 	check(info.di_data == 8);
 	check(info.di_attributes == (attributes | DOOR_LOCAL | DOOR_IS_UNREF));
 	pthread_join(thread_of(query, (void *)(intptr_t)door), NULL);
-	check(fcntl(door, F_GETFD) == 0);
+	check(fcntl(door, F_GETFD) == FD_CLOEXEC);
 	revoked = serve_at("revoked", serve, (void *)(uintptr_t)0xfedcba9876543210ull, DOOR_UNREF);
 	check(door_info(revoked, &second) == 0);
 	check(second.di_attributes == (DOOR_UNREF | DOOR_LOCAL));
