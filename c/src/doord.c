@@ -217,6 +217,7 @@ int main(int count, char **words)
 		fail("epoll_create1: %s", strerror(errno));
 	find_library();
 	open_kernel();
+	tell_long();
 	make_folder();
 	open_table();
 	open_socket();

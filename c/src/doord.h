@@ -44,12 +44,15 @@ struct object {
 	uint64_t number;     /* counted over all doors */
 	uint64_t procedure, cookie;
 	unsigned waiting;    /* of a private door: calls that no thread has accepted */
+	uint64_t least, most; /* of a door: data-min and data-max, as its program has set them */
+	uint64_t size;       /* of bytes that go beside the kernel: how many the file has */
 };
 
 /* Descriptors on their way. */
 struct passage {
 	unsigned count;
 	struct object *object[WIRE_ITEMS];
+	struct object *beside; /* the bytes of the message, where they go beside the kernel; else NULL */
 };
 
 enum member_kind { MEMBER_KEEPER, MEMBER_ORDINARY, MEMBER_SPARE };
@@ -111,7 +114,7 @@ struct slot {
 	bool is_held;        /* its call is held back until there is room in the pool */
 	bool is_replied;     /* a reply stands in its page, to be handed over */
 	unsigned files;      /* that go with the reply */
-	int file[WIRE_PASSED];
+	int file[WIRE_REPLY_FILES];
 	struct wire_request request;
 };
 
@@ -170,7 +173,7 @@ struct options {
 	unsigned shapes;
 	unsigned limit;
 	const char *history, *socket;
-	bool eagain, no_preload, stay;
+	bool eagain, no_preload, stay, takes_long;
 	char **command;
 };
 
@@ -292,7 +295,17 @@ void settle(void);
 void hold_back(struct slot *slot);
 void let_go(struct slot *slot);
 
+/* doord_long.c: messages of more bytes than the kernel takes */
+void tell_long(void);
+int put_beside(struct slot *slot, int file, struct object **beside);
+void pad_beside(struct slot *slot, const struct object *door);
+bool is_refused_beside(const struct slot *slot, const struct object *door, const struct object *beside);
+void ask_parameter_beside(struct asked *asked, const struct member *member, const struct object *door);
+void follow_parameter(const struct wire_request *request, struct object *door);
+void tell_parameter(struct wire_reply *reply, const struct wire_request *request, const struct object *door);
+
 /* doord_paths.c */
+bool is_valid(const struct object *door);
 void open_table(void);
 void ask_attach(struct slot *slot, int member);
 void ask_detach(struct slot *slot, int member);

@@ -144,15 +144,25 @@ static uint64_t item_for(const struct client *client, uint64_t asked)
 	return (is_there ? row : WIRE_NO_FD) | (asked & WIRE_RELEASE);
 }
 
-/* What the kernel gets for the items of a request. Where that fails the request is answered, and nothing is left of it. */
-static bool make_items(struct slot *slot, int member, uint64_t *item)
+/*
+ * What the kernel gets for the items of a request, and for bytes that go beside it. Where that fails the request is answered, and nothing is
+ * left of it.
+ */
+static bool make_items(struct slot *slot, int member, uint64_t *item, struct object **beside)
 {
 	const struct wire_request *asked = &slot->request;
 	int file[WIRE_ITEMS];
-	unsigned taken = 0;
+	unsigned taken = (asked->flags & WIRE_BESIDE) != 0;
 
+	*beside = NULL;
 	if (!take_parcel(slot, file, asked->files)) {
 		reply_error(slot, EBADF);
+		return false;
+	}
+	int wrong = taken > 0 ? put_beside(slot, file[0], beside) : 0;
+	if (wrong != 0) {
+		close_files(file + taken, asked->files - taken);
+		reply_error(slot, wrong);
 		return false;
 	}
 	for (unsigned i = 0; i < asked->items; i++) {
@@ -164,6 +174,7 @@ static bool make_items(struct slot *slot, int member, uint64_t *item)
 			int error = host_error(answer.number[0]);
 			close_files(file + taken, asked->files - taken);
 			undo_items(slot, member, item, i);
+			drop(*beside);
 			reply_error(slot, error);
 			return false;
 		}
@@ -225,26 +236,40 @@ static struct asked message_of(const struct slot *slot, uint32_t op, const uint6
 	return asked;
 }
 
+/* Nothing is left of a call or a return that was refused. */
+static void refuse(struct slot *slot, int member, const uint64_t *item, struct object *beside, int error)
+{
+	undo_items(slot, member, item, slot->request.items);
+	drop(beside);
+	reply_error(slot, error);
+}
+
 void ask_call(struct slot *slot, int number)
 {
 	struct member *member = &doord.member[number];
 	uint64_t item[WIRE_ITEMS];
+	struct object *beside;
 
 	if (is_pool_full(slot, member->place)) {
 		hold_back(slot);
 		return;
 	}
-	if (!make_items(slot, number, item))
+	if (!make_items(slot, number, item, &beside))
 		return;
-	struct asked asked = message_of(slot, KERNEL_OP_CALL, item);
 	struct object *door = row_of(member->place, slot->request.a);
+	if (is_refused_beside(slot, door, beside)) {
+		refuse(slot, number, item, beside, ENOBUFS);
+		return;
+	}
+	if (beside)
+		pad_beside(slot, door);
+	struct asked asked = message_of(slot, KERNEL_OP_CALL, item);
 	enter_kernel(number, &asked);
 	if (answer.kind != KERNEL_ANSWER_WAIT_CALL || !door) {
 		int error = host_error(answer.number[0]);
-		undo_items(slot, number, item, slot->request.items);
 		if (error == EAGAIN)
 			tell_limit(member->place, LIMIT_QUEUE);
-		reply_error(slot, error);
+		refuse(slot, number, item, beside, error);
 		return;
 	}
 	member->calls = (uint32_t)answer.number[0];
@@ -255,16 +280,18 @@ void ask_call(struct slot *slot, int number)
 	if (!(door->attributes & KERNEL_ATTRIBUTE_PRIVATE))
 		see_that_served(door->place);
 	send_items(member->place, item, slot->request.items, &member->sent);
+	member->sent.beside = beside;
 	tell_taken(slot, KERNEL_ANSWER_WAIT_CALL);
 }
 
 /* The results go to the caller, where one waits for them. */
-static void send_results(struct member *server, const struct slot *slot, const uint64_t *item)
+static void send_results(struct member *server, const struct slot *slot, const uint64_t *item, struct object *beside)
 {
 	struct passage passage = { 0 };
 	int caller = server->serves ? member_calling(server->serves) : 0;
 
 	send_items(server->place, item, slot->request.items, &passage);
+	passage.beside = beside;
 	if (caller) {
 		drop_passage(&doord.member[caller].results);
 		doord.member[caller].results = passage;
@@ -279,14 +306,15 @@ void ask_return(struct slot *slot, int number)
 {
 	struct member *member = &doord.member[number];
 	uint64_t item[WIRE_ITEMS];
+	struct object *beside;
 
-	if (!make_items(slot, number, item))
+	if (!make_items(slot, number, item, &beside))
 		return;
 	bool sound = are_sound(member->place, item, slot->request.items);
 	struct asked asked = message_of(slot, KERNEL_OP_RETURN, item);
 	bool taken = enter_kernel(number, &asked);
 	if (answer.kind == KERNEL_ANSWER_WAIT) {
-		send_results(member, slot, item);
+		send_results(member, slot, item, beside);
 		member->waits_to_serve = true;
 		tell_taken(slot, KERNEL_ANSWER_WAIT);
 		/* a thread that is given what was queued already is not among the woken */
@@ -297,7 +325,7 @@ void ask_return(struct slot *slot, int number)
 	int error = host_error(answer.number[0]);
 	/* the door that the thread is bound to is invalid: the results went out all the same */
 	if (taken && error == EINVAL && sound) {
-		send_results(member, slot, item);
+		send_results(member, slot, item, beside);
 		drop(member->bound);
 		member->bound = NULL;
 		struct wire_reply *reply = begin_reply(slot, KERNEL_ANSWER_FAILURE);
@@ -305,8 +333,7 @@ void ask_return(struct slot *slot, int number)
 		reply->flags = is_any_released(slot) ? WIRE_TAKEN : 0;
 		return;
 	}
-	undo_items(slot, number, item, slot->request.items);
-	reply_error(slot, error);
+	refuse(slot, number, item, beside, error);
 }
 
 /* The program has closed what it released. */
@@ -322,6 +349,16 @@ void ask_wait(struct slot *slot, int number)
 
 /* ends of waits */
 
+/* Bytes that went beside the kernel: the file of them is the reply's first. */
+static void receive_beside(struct slot *slot, struct wire_reply *reply, struct object *beside)
+{
+	if (!beside || beside->file < 0)
+		return;
+	slot->file[slot->files++] = beside->file;
+	beside->file = -1;
+	reply->flags |= WIRE_BESIDE;
+}
+
 /* Descriptors that came: files are taken out of the kernel at once, since their receiver has them from here. */
 static void receive_items(int number, struct wire_reply *reply, struct passage *passage)
 {
@@ -330,6 +367,8 @@ static void receive_items(int number, struct wire_reply *reply, struct passage *
 	uint64_t fd[WIRE_PASSED];
 
 	memcpy(fd, answer.item, count * sizeof *fd);
+	if (reply)
+		receive_beside(member->slot, reply, passage->beside);
 	for (unsigned i = 0; i < count && i < passage->count; i++) {
 		struct object *object = passage->object[i];
 		struct wire_passed *passed = reply ? &reply->item[i] : NULL;

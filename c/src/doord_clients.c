@@ -309,7 +309,7 @@ static void refuse_hello(struct client *client, int error)
 
 static void welcome(struct client *client, const struct wire_message *hello)
 {
-	struct wire_message message = { .kind = WIRE_WELCOME, .version = WIRE_VERSION };
+	struct wire_message message = { .kind = WIRE_WELCOME, .version = WIRE_VERSION, .a = doord.options.takes_long ? WIRE_LONG : 0 };
 	int file[2] = { -1, -1 };
 	char program[WIRE_NAME];
 

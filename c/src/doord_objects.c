@@ -66,4 +66,6 @@ void drop_passage(struct passage *passage)
 	for (unsigned i = 0; i < passage->count; i++)
 		drop(passage->object[i]);
 	passage->count = 0;
+	drop(passage->beside);
+	passage->beside = NULL;
 }

@@ -6,7 +6,7 @@
 #include <stdlib.h>
 #include <string.h>
 
-static const char usage[] = "usage: doord [-b PROGRAM=THREADS,SPARES,CHILDREN].. [-l LIMIT] [-o FILE] [-S SOCKET] [--eagain] [--no-preload] [--stay] -- COMMAND ..\n";
+static const char usage[] = "usage: doord [-b PROGRAM=THREADS,SPARES,CHILDREN].. [-l LIMIT] [-o FILE] [-S SOCKET] [--eagain] [--long] [--no-preload] [--stay] -- COMMAND ..\n";
 
 static const char help[] =
 	"\n"
@@ -19,6 +19,7 @@ static const char help[] =
 	"  -o FILE                             the history (doord.history); doorlab history FILE judges it\n"
 	"  -S SOCKET                           the control socket (without it in a folder of its own)\n"
 	"  --eagain                            the 33rd call that waits in a pool is EAGAIN (without it, it is held back until there is room)\n"
+	"  --long                              messages above 4,096 bytes go beside the kernel, up to 16,777,216 (without it they are E2BIG)\n"
 	"  --no-preload                        LD_PRELOAD stays as it is\n"
 	"  --stay                              what COMMAND leaves behind is waited for (without it, it is ended once all is quiet)\n"
 	"  --help, --version\n"
@@ -134,6 +135,8 @@ void read_options(int count, char **words, struct options *options)
 			exit(fflush(stdout) == 0 ? 0 : DOORD_FAILED);
 		} else if (strcmp(word, "--eagain") == 0) {
 			options->eagain = true;
+		} else if (strcmp(word, "--long") == 0) {
+			options->takes_long = true;
 		} else if (strcmp(word, "--stay") == 0) {
 			options->stay = true;
 		} else if (strcmp(word, "--no-preload") == 0) {

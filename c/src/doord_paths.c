@@ -136,7 +136,7 @@ static const char *text_of(struct slot *slot)
 	return (const char *)request->data;
 }
 
-static bool is_valid(const struct object *door)
+bool is_valid(const struct object *door)
 {
 	return !door->is_revoked && !doord.place[door->place].is_spent;
 }

@@ -163,6 +163,8 @@ static void follow(struct member *member, const struct wire_request *request)
 			object->is_revoked = true;
 		clear_row(member->place, request->a);
 		tell_validity();
+	} else if (request->op == KERNEL_OP_SET_PARAMETER && object) {
+		follow_parameter(request, object);
 	} else if (request->op == KERNEL_OP_DUPLICATE && object) {
 		set_row(member->place, answer.number[0], object);
 	} else if (request->op == KERNEL_OP_BIND && object) {
@@ -184,6 +186,7 @@ static void ask_simple(struct slot *slot, int number)
 	struct asked asked = { .op = request->op, .a = request->a, .b = request->b, .c = request->c };
 	struct object *door = request->op == KERNEL_OP_INFO_QUERY ? member->bound : row_of(member->place, request->a);
 
+	ask_parameter_beside(&asked, member, door);
 	enter_kernel(number, &asked);
 	struct wire_reply *reply = begin_reply(slot, answer.kind);
 	switch (answer.kind) {
@@ -197,6 +200,7 @@ static void ask_simple(struct slot *slot, int number)
 		break;
 	case KERNEL_ANSWER_PARAMETER:
 		reply->c = answer.number[0];
+		tell_parameter(reply, request, door);
 		break;
 	case KERNEL_ANSWER_INFO:
 		tell_info(reply, door);
@@ -279,6 +283,7 @@ static void ask_create(struct slot *slot, int number)
 	door->is_door = true;
 	door->place = member->place;
 	door->attributes = request->a;
+	door->most = UINT64_MAX;
 	door->number = ++doord.doors;
 	door->procedure = request->c;
 	door->cookie = request->d;
@@ -429,6 +434,7 @@ static bool copy_request(struct slot *slot)
 	}
 	memcpy(to->item, from->item, to->items * sizeof *to->item);
 	memcpy(to->data, from->data, to->data_size);
+	files += (to->flags & WIRE_BESIDE) != 0;
 	for (unsigned i = 0; i < to->items; i++)
 		files += (to->item[i] & WIRE_FILE) != 0;
 	return files == to->files || to->op == KERNEL_OP_ATTACH;

@@ -74,6 +74,7 @@ struct connection {
 	_Atomic uint32_t generation;    /* how many forks lie between this process and the first; threads of another one do not go on */
 	_Atomic int control, bell;      /* descriptors that are kept from the program, or -1 */
 	_Atomic pid_t pid;
+	_Atomic uint32_t most;          /* bytes of a message, where doord takes more than the kernel; else 0 */
 	struct wire_area *area;
 	_Atomic bool *mark;             /* in memory that is empty in a child, however that is made */
 };
@@ -134,6 +135,8 @@ struct thread {
 	bool is_of_library;        /* it waits for calls with all signals kept off, and has this mask in a procedure */
 	bool is_unmasked;          /* it has it now */
 	uint64_t mask;
+	void *argument;            /* of the invocation, where it was long and has a mapping of its own; else NULL */
+	size_t argument_size;
 };
 
 extern __thread struct thread thread __attribute__((tls_model("initial-exec")));
@@ -172,7 +175,7 @@ struct ask {
 
 struct kept {
 	struct wire_reply reply;
-	int file[WIRE_PASSED];
+	int file[WIRE_REPLY_FILES];
 };
 
 int begin_ask(struct ask *ask, uint32_t op);
@@ -198,6 +201,8 @@ struct came {
 	unsigned count;
 	struct wire_passed passed[WIRE_PASSED];
 	int file[WIRE_PASSED];
+	bool is_beside; /* the bytes came as a file: */
+	int beside;     /* that is -1 where this process had no room for it */
 };
 
 int put_message(struct ask *ask, struct sent *sent, const char *data, size_t size, const door_desc_t *desc, uint_t count);
@@ -205,6 +210,14 @@ void release_sent(struct sent *sent);
 void take_came(struct ask *ask, struct came *came);
 int place_came(const struct came *came, door_desc_t *desc);
 void drop_came(const struct came *came, const door_desc_t *desc, unsigned placed);
+
+/* libdoor_long.c: messages of more bytes than the kernel takes */
+int write_beside(const char *data, size_t size);
+int read_beside(int file, char *to, size_t size);
+size_t size_beside(int file);
+void close_beside(int file);
+char *take_argument(int file, size_t *size);
+void forget_argument(void);
 
 /* libdoor_descriptors.c: descriptors of the program that stand for those of the kernel */
 

@@ -60,35 +60,49 @@ static void tell(door_arg_t *arg, const struct room *room, unsigned count)
 }
 
 /* There is nobody, or no room, for the results: what came with them is closed. */
-static void drop_results(struct ask *ask)
+static void drop_results(struct ask *ask, const struct came *came)
 {
 	int error = errno;
 	door_desc_t desc[WIRE_PASSED];
-	struct came came;
 
-	take_came(ask, &came);
 	end_ask(ask);
-	drop_came(&came, desc, 0);
+	drop_came(came, desc, 0);
 	errno = error;
+}
+
+/* The bytes, where there is room for them: -1 and errno where there is none. */
+static int take_bytes(const struct ask *ask, const struct came *came, const door_arg_t *arg, struct room *room)
+{
+	size_t size = came->is_beside ? size_beside(came->beside) : ask->reply->data_size;
+
+	if (came->is_beside && came->beside < 0) {
+		errno = EMFILE;
+		return -1;
+	}
+	if (find_room(room, arg, size, came->count) < 0)
+		return -1;
+	if (came->is_beside && read_beside(came->beside, room->at, size) < 0) {
+		give_room_back(room);
+		return -1;
+	}
+	if (!came->is_beside && size > 0)
+		memcpy(room->at, ask->reply->data, size);
+	return 0;
 }
 
 static int take_results(struct ask *ask, door_arg_t *arg)
 {
-	size_t size = ask->reply->data_size;
 	struct room room;
 	struct came came;
 
-	if (!arg) {
-		drop_results(ask);
-		return 0;
-	}
-	if (find_room(&room, arg, size, ask->reply->passed) < 0) {
-		drop_results(ask);
-		return -1;
-	}
-	if (size > 0)
-		memcpy(room.at, ask->reply->data, size);
 	take_came(ask, &came);
+	int result = arg ? take_bytes(ask, &came, arg, &room) : 0;
+	if (came.beside >= 0)
+		close_beside(came.beside);
+	if (!arg || result < 0) {
+		drop_results(ask, &came);
+		return result;
+	}
 	end_ask(ask);
 	if (came.count > 0 && place_came(&came, (door_desc_t *)(void *)(room.at + room.descriptors)) < 0) {
 		give_room_back(&room);

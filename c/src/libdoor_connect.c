@@ -181,6 +181,7 @@ static int say_hello(int control, uint32_t token, int *file)
 		errno = EMFILE;
 		return -1;
 	}
+	atomic_store(&connection.most, message.a);
 	return 0;
 }
 

@@ -12,7 +12,7 @@
 struct stash {
 	uint32_t number;
 	unsigned files;
-	int file[WIRE_PASSED];
+	int file[WIRE_REPLY_FILES];
 };
 
 static struct {
@@ -40,7 +40,7 @@ static bool receive_one(void)
 	struct iovec bytes = { &message, sizeof message };
 	union {
 		struct cmsghdr header;
-		char room[CMSG_SPACE(WIRE_PASSED * sizeof(int))];
+		char room[CMSG_SPACE(WIRE_REPLY_FILES * sizeof(int))];
 	} control;
 	struct msghdr packet = { .msg_iov = &bytes, .msg_iovlen = 1, .msg_control = control.room, .msg_controllen = sizeof control.room };
 	struct stash came = { 0 };

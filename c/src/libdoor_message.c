@@ -31,9 +31,9 @@ static bool is_passed_twice(const struct sent *sent, const struct wire_request *
 	return false;
 }
 
-static int put_items(struct ask *ask, struct sent *sent, const door_desc_t *desc, unsigned count)
+/* The descriptors, and those of ordinary files, of which ask->request->files tells how many. */
+static int put_items(struct ask *ask, struct sent *sent, const door_desc_t *desc, unsigned count, int *file)
 {
-	int file[LIBDOOR_PASSED + 1];
 	unsigned files = 0;
 
 	for (unsigned i = 0; i < count; i++) {
@@ -55,13 +55,36 @@ static int put_items(struct ask *ask, struct sent *sent, const door_desc_t *desc
 	sent->count = count;
 	ask->request->items = count;
 	ask->request->files = files;
-	return send_files(ask->index, ask->number, file, files);
+	return 0;
 }
 
-/* Of a message that is too large goes so much that the kernel says so. */
+/* The bytes, in the request or beside it, where the first file has them. Of more than doord takes go so many that the kernel says so. */
+static int put_bytes(struct ask *ask, const char *data, size_t size, int *beside)
+{
+	static _Atomic int said;
+	uint32_t most = atomic_load_explicit(&connection.most, memory_order_relaxed);
+
+	if (size > LIBDOOR_DATA && size <= most) {
+		ask->request->flags |= WIRE_BESIDE;
+		ask->request->files++;
+		*beside = write_beside(data, size);
+		return *beside < 0 ? -1 : 0;
+	}
+	if (size > LIBDOOR_DATA) {
+		say_once(&said, most > 0 ? "libdoor: E2BIG: a message has at most 16,777,216 bytes"
+			: "libdoor: E2BIG: a message of this kernel has at most 4,096 bytes; doord --long takes more");
+		size = LIBDOOR_DATA + 1;
+	}
+	if (size > 0)
+		memcpy(ask->request->data, data, size);
+	ask->request->data_size = (uint32_t)size;
+	return 0;
+}
+
 int put_message(struct ask *ask, struct sent *sent, const char *data, size_t size, const door_desc_t *desc, uint_t count)
 {
-	static _Atomic int said_size, said_count;
+	static _Atomic int said;
+	int file[LIBDOOR_PASSED + 2] = { -1 }, *beside = file;
 
 	sent->count = 0;
 	ask->sent = sent;
@@ -69,18 +92,17 @@ int put_message(struct ask *ask, struct sent *sent, const char *data, size_t siz
 		errno = EFAULT;
 		return -1;
 	}
-	if (size > LIBDOOR_DATA) {
-		say_once(&said_size, "libdoor: E2BIG: a message of this kernel has at most 4,096 bytes");
-		size = LIBDOOR_DATA + 1;
-	}
 	if (count > LIBDOOR_PASSED) {
-		say_once(&said_count, "libdoor: E2BIG: a message of this kernel has at most 16 descriptors");
+		say_once(&said, "libdoor: E2BIG: a message of this kernel has at most 16 descriptors");
 		count = LIBDOOR_PASSED + 1;
 	}
-	if (size > 0)
-		memcpy(ask->request->data, data, size);
-	ask->request->data_size = (uint32_t)size;
-	return count > 0 ? put_items(ask, sent, desc, count) : 0;
+	/* the file of the bytes is made last: a descriptor that is none does not become one by it */
+	if ((count > 0 && put_items(ask, sent, desc, count, file + 1) < 0) || put_bytes(ask, data, size, beside) < 0)
+		return -1;
+	int result = send_files(ask->index, ask->number, *beside >= 0 ? file : file + 1, ask->request->files);
+	if (*beside >= 0)
+		close_beside(*beside);
+	return result;
 }
 
 /* The message has gone: what it releases is no descriptor any more, neither of the kernel nor of the program. */
@@ -94,21 +116,27 @@ void release_sent(struct sent *sent)
 	sent->count = 0;
 }
 
-/* The descriptors of an answer, before it ends. */
+/* The descriptors of an answer, and the file of its bytes where they come so, before it ends. */
 void take_came(struct ask *ask, struct came *came)
 {
 	const struct wire_reply *reply = ask->reply;
+	int file[WIRE_REPLY_FILES + 1];
 
 	came->count = reply->passed;
-	if (reply->passed == 0)
+	came->is_beside = (reply->flags & WIRE_BESIDE) != 0;
+	came->beside = -1;
+	if (reply->passed == 0 && !came->is_beside)
 		return;
 	memcpy(came->passed, reply->item, reply->passed * sizeof *reply->item);
-	for (unsigned i = 0; i < WIRE_PASSED; i++)
-		came->file[i] = -1;
+	for (unsigned i = 0; i <= WIRE_REPLY_FILES; i++)
+		file[i] = -1;
 	if (reply->files > 0 && ask->is_kept)
-		memcpy(came->file, ask->kept->file, reply->files * sizeof(int));
+		memcpy(file, ask->kept->file, reply->files * sizeof(int));
 	else if (reply->files > 0)
-		receive_files(ask->index, ask->number, came->file, reply->files);
+		receive_files(ask->index, ask->number, file, reply->files);
+	if (came->is_beside)
+		came->beside = file[0];
+	memcpy(came->file, came->is_beside ? file + 1 : file, sizeof came->file);
 }
 
 /* All that came is closed again; so many have descriptors already. */

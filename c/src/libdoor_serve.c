@@ -90,6 +90,20 @@ static unsigned place_arguments(struct service *service)
 	return 0;
 }
 
+/* The bytes of an invocation, once what came with it is taken: NULL where there is no room for them. */
+static char *place_bytes(struct service *service, size_t *size)
+{
+	static _Atomic int said;
+
+	forget_argument();
+	if (!service->came.is_beside)
+		return service->data;
+	char *data = take_argument(service->came.beside, size);
+	if (!data)
+		say_once(&said, "libdoor: EMFILE: there is no room for the bytes of a call: it ends with EINTR");
+	return data;
+}
+
 static void invoke(struct service *service)
 {
 	const struct wire_reply *reply = service->ask.reply;
@@ -99,18 +113,23 @@ static void invoke(struct service *service)
 	memcpy(service->data, reply->data, size);
 	take_came(&service->ask, &service->came);
 	end_ask(&service->ask);
+	char *data = place_bytes(service, &size);
 	const struct own_door *door = own_door(number);
 	bool is_invocation = kind == KERNEL_ANSWER_ENTERED || kind == KERNEL_ANSWER_NOTICE;
 	if (!is_invocation || !door || !atomic_load_explicit(&door->is_there, memory_order_acquire))
 		return;
 	if (flags & WIRE_POOL)
 		pool_is_empty(number);
+	if (!data) {
+		drop_came(&service->came, service->desc, 0);
+		return;
+	}
 	unsigned count = place_arguments(service);
 	let_signals_in();
 	if (kind == KERNEL_ANSWER_NOTICE)
 		door->procedure(door->cookie, DOOR_UNREF_DATA, 0, NULL, 0);
 	else
-		door->procedure(door->cookie, size > 0 ? service->data : NULL, size, count > 0 ? service->desc : NULL, count);
+		door->procedure(door->cookie, size > 0 ? data : NULL, size, count > 0 ? service->desc : NULL, count);
 }
 
 /*

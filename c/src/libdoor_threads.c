@@ -108,6 +108,9 @@ static void leave_request(void)
 		resume_ask(&ask);
 		ask.kept = &kept;
 		end_call_for_handler(&ask);
+		for (unsigned i = 0; i < kept.reply.files; i++)
+			if (kept.file[i] >= 0)
+				close_beside(kept.file[i]);
 	}
 	thread.ask = NULL;
 	set_at(AT_PROGRAM);
@@ -138,6 +141,7 @@ static void leave(void *unused)
 
 	(void)unused;
 	thread.service = NULL;
+	forget_argument();
 	if (!thread.slot || thread.generation != atomic_load(&connection.generation))
 		return;
 	if (thread.at == AT_WAIT) {

@@ -20,6 +20,8 @@ enum {
 	WIRE_REPLY = 4096, /* the most bytes of a reply */
 	WIRE_ITEMS = 32,   /* the most descriptors of a request */
 	WIRE_PASSED = 16,  /* the most descriptors of a reply */
+	WIRE_REPLY_FILES = WIRE_PASSED + 1, /* the most files of a reply: that of its bytes is one */
+	WIRE_LONG = 1 << 24, /* the most bytes of a message that goes beside the kernel */
 	WIRE_NAME = 64,
 	WIRE_PATHS = 4096, /* the most paths that can be attached */
 };
@@ -50,6 +52,12 @@ enum {
 enum {
 	WIRE_KEEPER = 1, /* by the process's keeper, whatever the thread waits for */
 };
+
+/*
+ * Of a request and of a reply: the bytes go beside the kernel. They are the first file of the message, a memory that is sealed against all
+ * changes, of more bytes than the kernel takes and at most WIRE_LONG. Only where the welcome says that doord takes them.
+ */
+enum { WIRE_BESIDE = 4 };
 
 /*
  * A request. Operands by operation, the others 0; descriptors are the kernel's, WIRE_NO_FD where there is none:
@@ -143,7 +151,7 @@ struct wire_table {
 /* messages of the control socket */
 enum {
 	WIRE_HELLO = 1, /* program: it comes. Answered by WIRE_WELCOME, with the area and the bell */
-	WIRE_WELCOME,   /* doord: error 0, or why not */
+	WIRE_WELCOME,   /* doord: error 0, or why not; a the most bytes of a message, 0 for those of the kernel */
 	WIRE_STAND_IN,  /* program: with the reading end of a pipe, whose writing end stands for descriptor a */
 	WIRE_FILES,     /* both: with the files of slot a, number b */
 	WIRE_FORKED,    /* program: token a has pid b */
