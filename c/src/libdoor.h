@@ -224,14 +224,14 @@ void forget_argument(void);
 /* What a descriptor is: the kernel's number, WIRE_NO_FD for none; the pipe that stands for it; and what fcntl(2) tells of it. */
 struct stand_in {
 	uint32_t row, pipe;
-	int flags; /* the access mode, and O_CLOEXEC */
+	int flags; /* the access mode, O_CLOEXEC, O_NONBLOCK and O_APPEND */
 };
 
 struct stand_in stand_in_at(int fd);
 bool may_be_stand_in(int fd);
 bool is_stand_in_found(int fd, const struct stat *found);
 void name_descriptor(struct wire_request *request, const struct stand_in *it);
-void set_to_close(int fd, bool closes);
+void set_flags(int fd, int which, int flags);
 void close_pipe(const int *end);
 int new_stand_in(uint32_t row, int flags);
 int new_stand_in_at(uint32_t row, int flags, int fd, int *end);

@@ -76,12 +76,17 @@ static int close_around(unsigned first, unsigned last, int flags)
  */
 EXPORT int close_range(unsigned first, unsigned last, int flags)
 {
-	if ((flags & ~(int)CLOSE_RANGE_UNSHARE) || first > last || !is_connected_here())
+	const int known = CLOSE_RANGE_UNSHARE | CLOSE_RANGE_CLOEXEC;
+
+	if ((flags & ~known) || first > last || !is_connected_here())
 		return real_close_range(first, last, flags);
-	if (flags != 0)
-		return close_around(first, last, flags);
-	for (int fd = next_stand_in(first > INT_MAX ? INT_MAX : (int)first); fd >= 0 && (unsigned)fd <= last; fd = next_stand_in(fd + 1))
-		(void)close_in_kernel(fd);
+	int from = next_stand_in(first > INT_MAX ? INT_MAX : (int)first);
+	for (int fd = from; fd >= 0 && (unsigned)fd <= last; fd = next_stand_in(fd + 1)) {
+		if (flags & CLOSE_RANGE_CLOEXEC)
+			set_flags(fd, O_CLOEXEC, O_CLOEXEC);
+		else if (flags == 0)
+			(void)close_in_kernel(fd);
+	}
 	return close_around(first, last, flags);
 }
 
@@ -118,10 +123,10 @@ static int or_close(int fd, uint32_t row)
 	return fd;
 }
 
-/* What fcntl(2) tells of a copy: the access mode is that of the first, and close-on-exec is not. */
+/* What fcntl(2) tells of a copy: all is as of the first, but for close-on-exec. */
 static int flags_of_copy(const struct stand_in *it, int closes)
 {
-	return (it->flags & O_ACCMODE) | closes;
+	return (it->flags & ~O_CLOEXEC) | closes;
 }
 
 static int copy_above(int fd, int least, int closes)
@@ -200,10 +205,11 @@ EXPORT int dup3(int from, int to, int flags)
 
 /* fcntl(2) */
 
-/* A stand-in is always closed by exec(2), so FD_CLOEXEC is what the program has asked for, and so is the access mode. */
+/* A stand-in is always closed by exec(2), so FD_CLOEXEC is what the program has asked for, and so are the flags of open(2). */
 static int control_door(int fd, int command, void *argument)
 {
 	const struct stand_in it = stand_in_at(fd);
+	const int changed = O_NONBLOCK | O_APPEND, all = changed | O_ACCMODE;
 	int found;
 
 	switch (command) {
@@ -214,11 +220,16 @@ static int control_door(int fd, int command, void *argument)
 	case F_GETFD:
 		return it.flags & O_CLOEXEC ? FD_CLOEXEC : 0;
 	case F_SETFD:
-		set_to_close(fd, (intptr_t)argument & FD_CLOEXEC);
+		set_flags(fd, O_CLOEXEC, (intptr_t)argument & FD_CLOEXEC ? O_CLOEXEC : 0);
 		return 0;
 	case F_GETFL:
 		found = real_fcntl(fd, F_GETFL, NULL);
-		return found < 0 ? found : (found & ~O_ACCMODE) | (it.flags & O_ACCMODE);
+		return found < 0 ? found : (found & ~all) | (it.flags & all);
+	case F_SETFL:
+		found = real_fcntl(fd, F_SETFL, argument);
+		if (found == 0)
+			set_flags(fd, changed, (int)(intptr_t)argument);
+		return found;
 	default:
 		return real_fcntl(fd, command, argument);
 	}

@@ -7,6 +7,7 @@
 
 #include <errno.h>
 #include <fcntl.h>
+#include <sys/resource.h>
 #include <sys/stat.h>
 #include <sys/syscall.h>
 #include <unistd.h>
@@ -16,6 +17,8 @@ enum {
 	ENTRY_ROW = 0xffff,
 	ENTRY_CLOSES = 1 << 16, /* FD_CLOEXEC, as the program has it */
 	ENTRY_MODE = 17,        /* from this bit on O_RDONLY, O_WRONLY or O_RDWR */
+	ENTRY_NO_WAIT = 1 << 19, /* O_NONBLOCK */
+	ENTRY_APPENDS = 1 << 20, /* O_APPEND */
 	ENTRY_PIPE = 32,        /* and from this one its number, by which a descriptor that was closed behind libdoor's back is known */
 };
 
@@ -36,15 +39,23 @@ static struct stand_in read_entry(uint64_t entry)
 {
 	struct stand_in it = { .row = (uint32_t)(entry & ENTRY_ROW) - 1, .pipe = (uint32_t)(entry >> ENTRY_PIPE) };
 
-	it.flags = (int)(entry >> ENTRY_MODE & O_ACCMODE) | (entry & ENTRY_CLOSES ? O_CLOEXEC : 0);
+	it.flags = (int)(entry >> ENTRY_MODE & O_ACCMODE) | (entry & ENTRY_CLOSES ? O_CLOEXEC : 0)
+		| (entry & ENTRY_NO_WAIT ? O_NONBLOCK : 0) | (entry & ENTRY_APPENDS ? O_APPEND : 0);
 	return it;
+}
+
+/* Those that fcntl(2) changes. */
+static uint64_t bits_of(int flags)
+{
+	return (flags & O_CLOEXEC ? ENTRY_CLOSES : 0) | (flags & O_NONBLOCK ? ENTRY_NO_WAIT : 0)
+		| (flags & O_APPEND ? ENTRY_APPENDS : 0);
 }
 
 static uint64_t entry_for(uint32_t pipe, uint32_t row, int flags)
 {
 	uint64_t mode = (uint64_t)(flags & O_ACCMODE) << ENTRY_MODE;
 
-	return (uint64_t)pipe << ENTRY_PIPE | mode | (flags & O_CLOEXEC ? ENTRY_CLOSES : 0) | (row + 1);
+	return (uint64_t)pipe << ENTRY_PIPE | mode | bits_of(flags) | (row + 1);
 }
 
 /* By the bare system call, since the library's fstat(3) tells of a door. */
@@ -92,12 +103,12 @@ void name_descriptor(struct wire_request *request, const struct stand_in *it)
 	request->d = it->pipe;
 }
 
-/* FD_CLOEXEC as the program wants it. The descriptor itself stays as it is. */
-void set_to_close(int fd, bool closes)
+/* What fcntl(2) tells of these flags from now on. The pipe itself stays as it is. */
+void set_flags(int fd, int which, int flags)
 {
-	uint64_t entry = entry_of(fd);
+	uint64_t entry = entry_of(fd), kept = ~bits_of(which);
 
-	while (entry != 0 && !atomic_compare_exchange_weak(&own.entry[fd], &entry, (entry & ~(uint64_t)ENTRY_CLOSES) | (closes ? ENTRY_CLOSES : 0)))
+	while (entry != 0 && !atomic_compare_exchange_weak(&own.entry[fd], &entry, (entry & kept) | bits_of(flags & which)))
 		continue;
 }
 
@@ -220,12 +231,24 @@ int new_stand_in_above(uint32_t row, int flags, int least)
 	return fd;
 }
 
+/* Where one lies above the limit, which was lowered since: nothing could be put there, so it is raised for now. */
+static bool allow_all(struct rlimit *limit)
+{
+	if (getrlimit(RLIMIT_NOFILE, limit) < 0 || limit->rlim_cur >= LIBDOOR_DESCRIPTORS || next_stand_in((int)limit->rlim_cur) < 0)
+		return false;
+	const struct rlimit most = { limit->rlim_max, limit->rlim_max };
+	return setrlimit(RLIMIT_NOFILE, &most) == 0;
+}
+
 /*
  * In a forked child: each is changed for one of its own, since those that it has are the parent's. Where it has no rows they stand for
  * nothing, but their numbers stay taken.
  */
 void renew_stand_ins(bool have_rows)
 {
+	struct rlimit limit;
+	bool is_low = allow_all(&limit);
+
 	for (int fd = next_stand_in(0); fd >= 0; fd = next_stand_in(fd + 1)) {
 		struct stand_in it = take_stand_in(fd);
 		int end[2];
@@ -238,4 +261,6 @@ void renew_stand_ins(bool have_rows)
 			close_pipe(end);
 		}
 	}
+	if (is_low)
+		(void)setrlimit(RLIMIT_NOFILE, &limit);
 }

@@ -57,7 +57,11 @@ static void flags(void)
 	snprintf(command, sizeof(command), "! [ -e /proc/self/fd/%d ]", door);
 	check(system(command) == 0);
 	check(fcntl(door, F_SETFL, O_NONBLOCK) == 0 && fcntl(door, F_GETFL) == (O_RDWR | O_NONBLOCK) && is_door(door, "it"));
+	copy = dup(door);
+	check(fcntl(copy, F_GETFL) == (O_RDWR | O_NONBLOCK) && close(copy) == 0);
 	check(fcntl(door, F_SETFL, 0) == 0 && fcntl(door, F_GETFL) == O_RDWR);
+	copy = open("w", O_RDWR | O_NONBLOCK | O_APPEND | O_CREAT, 0600);
+	check(fcntl(copy, F_GETFL) == (O_RDWR | O_NONBLOCK | O_APPEND) && is_door(copy, "it") && close(copy) == 0);
 	fails(fcntl(door, F_DUPFD, -1), EINVAL);
 	fails(fcntl(door, F_DUPFD, 1 << 24), EINVAL);
 	fails(fcntl(999, F_GETFD), EBADF);
@@ -148,7 +152,9 @@ static void ranges(int w)
 {
 	int other = open("x", O_RDWR), file = open("file", O_RDWR);
 
-	check(close_range(3, ~0u, CLOSE_RANGE_CLOEXEC) == 0 && is_door(w, "in range") && fcntl(file, F_GETFD) == FD_CLOEXEC);
+	check(fcntl(w, F_GETFD) == 0 && fcntl(other, F_GETFD) == 0);
+	check(close_range((unsigned)other, ~0u, CLOSE_RANGE_CLOEXEC) == 0 && is_door(w, "in range") && fcntl(file, F_GETFD) == FD_CLOEXEC);
+	check(fcntl(w, F_GETFD) == 0 && fcntl(other, F_GETFD) == FD_CLOEXEC && fcntl(dup(other), F_GETFD) == 0);
 	check(close_range((unsigned)other, (unsigned)file, CLOSE_RANGE_UNSHARE) == 0 && has_closed(other) && has_closed(file));
 	fails(door_call(other, NULL), EBADF);
 	fails(close_range(5, 4, 0), EINVAL);
@@ -161,9 +167,17 @@ static void ranges(int w)
 	check(has_closed(w) && has_closed(STDOUT_FILENO));
 }
 
+enum { ABOVE = 90, BELOW = 20 };
+
 static int child_closes(void)
 {
 	int w = 3, x = 4;
+	struct rlimit limit;
+
+	/* a descriptor above the limit, which its parent had lowered, is the child's own as well */
+	check(is_door(ABOVE, "above") && same(ABOVE, w) && fcntl(ABOVE, F_GETFL) == (O_RDWR | O_NONBLOCK));
+	check(getrlimit(RLIMIT_NOFILE, &limit) == 0 && limit.rlim_cur == BELOW);
+	check(close(ABOVE) == 0 && has_closed(ABOVE));
 
 	check(is_door(w, "in the child") && same(w, 5) && !same(w, x) && fcntl(w, F_GETFD) == FD_CLOEXEC && fcntl(x, F_GETFD) == 0);
 	check(close(w) == 0 && has_closed(w) && is_door(5, "the copy"));
@@ -177,14 +191,18 @@ static void forked(void)
 {
 	int w, x;
 	pid_t child;
+	struct rlimit limit;
 
 	closefrom(3);
 	w = open("w", O_RDWR | O_CLOEXEC);
 	x = open("x", O_RDWR);
-	check(w == 3 && x == 4 && dup(w) == 5);
+	check(w == 3 && x == 4 && dup(w) == 5 && dup2(w, ABOVE) == ABOVE && fcntl(ABOVE, F_SETFL, O_NONBLOCK) == 0);
+	check(getrlimit(RLIMIT_NOFILE, &limit) == 0);
+	limit.rlim_cur = BELOW;
+	check(setrlimit(RLIMIT_NOFILE, &limit) == 0);
 	child = beside(child_closes);
 	wait_for("closed");
-	check(is_door(w, "in the parent") && is_door(x, "as well") && is_door(5, "and this"));
+	check(is_door(w, "in the parent") && is_door(x, "as well") && is_door(5, "and this") && is_door(ABOVE, "and that"));
 	check(close(x) == 0 && has_closed(x));
 	touch("parent");
 	check(end_of(child) == 0 && is_door(w, "at the end"));
