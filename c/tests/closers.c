@@ -2,7 +2,7 @@
  * closers: a door's descriptor that one thread uses while another closes it.
  *
  * `closers mixed TIMES`: the number that a thread calls is a door's, a file's or closed, by turns, and the kernel's number behind it becomes
- * that of another door: the thread never comes to that one. `closers calls PATH FILE`: a call that has begun goes on when its descriptor is
+ * that of another door: the thread never comes to that one, by a call, a message, door_info(3C) or dup(2). `closers calls PATH FILE`: a call that has begun goes on when its descriptor is
  * closed, once FILE is there, and the number is used again. `closers held PATH`: so is that of a call that doord holds back, and the call does not
  * go to the door `w`, which has its number then, here and in the kernel.
  */
@@ -76,6 +76,23 @@ static void *pass(void *door)
 	return NULL;
 }
 
+/* What is told of the number, and of a copy of it, is told of the first door, or of none. */
+static void *look(void *unused)
+{
+	while (!over) {
+		door_info_t info = { .di_data = 0 };
+		int copy;
+
+		came(door_info(NUMBER, &info) == -1 ? errno : 0, info.di_data == 0 ? "first" : "second");
+		copy = dup(NUMBER);
+		if (copy == -1)
+			continue;
+		came(door_info(copy, &info) == -1 ? errno : 0, info.di_data == 0 ? "first" : "second");
+		check(close(copy) == 0);
+	}
+	return unused;
+}
+
 /* The number is the first door's, closed, a file's; and what it was in the kernel is the second's. */
 static void change(int first, int file)
 {
@@ -96,16 +113,18 @@ static void mixed(int times)
 {
 	pid_t process = beside(server);
 	int i, first = door_at("first"), second = door_at("second"), file = open("/dev/null", O_RDWR);
-	pthread_t thread[2];
+	pthread_t thread[3];
+	size_t at;
 
 	check(close(second) == 0);
 	thread[0] = thread_of(call, NULL);
 	thread[1] = thread_of(pass, (void *)(intptr_t)first);
+	thread[2] = thread_of(look, NULL);
 	for (i = 0; i < times; i++)
 		change(first, file);
 	over = 1;
-	pthread_join(thread[0], NULL);
-	pthread_join(thread[1], NULL);
+	for (at = 0; at < 3; at++)
+		pthread_join(thread[at], NULL);
 	check(wrong_door == 0);
 	if (wrong_door != 0)
 		say("%d right, %d closed, %d of the other door", right, closed, wrong_door);

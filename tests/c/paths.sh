@@ -58,6 +58,9 @@ case_servers_one_after_the_other() {
     gives_sorted 'echo a: a' 'echo b: b' 'echo d: EBADF' 'fattach: EBUSY' 'status 3' 'detach w: ok' 'detach w: EINVAL' text 'echo e: e'
     run 'serve w & pid=$!; doorwait w; kill $pid; wait $pid 2>/dev/null; seen "kill serve"; ask w "echo d"; rm w; ask w; up serve w; doorwait w; ask w "echo e"'
     gives 'echo d: EBADF' 'w: ENOENT' 'echo e: e'
+    run 'serve w & pid=$!; doorwait w; ln w hard; kill $pid; wait $pid 2>/dev/null; seen "kill serve"; echo new >new; mv new w; cat w; up serve w; doorwait w
+        ask hard "echo d"; ask w "echo e" "detach hard" "detach hard"; cat hard; ask w "detach w"; cat w'
+    gives new 'echo d: EBADF' 'echo e: e' 'detach hard: ok' 'detach hard: EINVAL' 'detach w: ok' new
 }
 
 case_doorwait() {
