@@ -54,7 +54,7 @@ static void make_door(void)
 
 int main(int argc, char **argv)
 {
-	int pipes[2], two[2];
+	int pipes[2], two[2], huge;
 
 	(void)argv;
 	if (argc > 3)
@@ -74,6 +74,10 @@ int main(int argc, char **argv)
 	refuses(memory_of(5000, F_SEAL_SHRINK | F_SEAL_GROW), EINVAL);
 	refuses(memory_of(5000, F_SEAL_WRITE | F_SEAL_GROW), EINVAL);
 	refuses(memory_of(5000, F_SEAL_FUTURE_WRITE | F_SEAL_SHRINK | F_SEAL_GROW), EINVAL);
+	/* whoever maps it may find no page for it */
+	huge = memfd_create("huge", MFD_CLOEXEC | MFD_ALLOW_SEALING | MFD_HUGETLB);
+	if (huge != -1 && ftruncate(huge, 2 << 20) == 0 && fcntl(huge, F_ADD_SEALS, SEALS) == 0)
+		refuses(huge, EINVAL);
 	refuses(memory_of(0, SEALS), EINVAL);
 	refuses(memory_of(4096, SEALS), EINVAL);
 	refuses(memory_of(WIRE_LONG + 1, SEALS), EINVAL);
