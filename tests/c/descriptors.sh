@@ -49,6 +49,12 @@ case_closed_by_another_thread() {
     gives_sorted 'done' 'done' 'echo ready: ready' 'hold go y: y'
 }
 
+# one that was closed, and whose number in the kernel is another's, is none
+case_numbers_of_others() {
+    run 'numbers' -b 'hostile=2,1,0'
+    gives 'done'
+}
+
 # 33 calls wait or are at work, so the next is held back
 case_closed_while_held_back() {
     run 'up serve w -p 1 one; doorwait one; ask one "echo ready"; ask -t 34 one "hold go x" & asks=$!; seen " call 0" 34; closers held one; wait $asks' \
