@@ -145,8 +145,8 @@ static uint64_t item_for(const struct client *client, uint64_t asked)
 }
 
 /*
- * What the kernel gets for the items of a request, and for bytes that go beside it. Where that fails the request is answered, and nothing is
- * left of it.
+ * What the kernel gets for the items of a request, and for bytes that go beside it. Where that fails the request is
+ * answered, and nothing is left of it.
  */
 static bool make_items(struct slot *slot, int member, uint64_t *item, struct object **beside)
 {

@@ -309,7 +309,7 @@ static void refuse_hello(struct client *client, int error)
 
 static void welcome(struct client *client, const struct wire_message *hello)
 {
-	struct wire_message message = { .kind = WIRE_WELCOME, .version = WIRE_VERSION, .a = doord.options.takes_long ? WIRE_LONG : 0 };
+	struct wire_message message = { .kind = WIRE_WELCOME, .version = WIRE_VERSION };
 	int file[2] = { -1, -1 };
 	char program[WIRE_NAME];
 
@@ -339,6 +339,7 @@ static void welcome(struct client *client, const struct wire_message *hello)
 		if (doord.place[place].row[row])
 			expect_stand_in(client, row); /* a forked child makes its own */
 	file[1] = client->bell;
+	message.a = doord.options.takes_long ? WIRE_LONG : 0;
 	write_history();
 	if (!send_message(client->control, &message, file, 2))
 		end_client(client);

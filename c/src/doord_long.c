@@ -1,7 +1,7 @@
 /*
- * doord_long.c: messages of more bytes than the kernel takes, where --long says so. They go beside it, as a sealed memory, and what the kernel
- * gets for them is the text `long SIZE SHA256`. What it can test no more, as the size against a door's data-min and data-max, is tested here,
- * and a remark says so.
+ * doord_long.c: messages of more bytes than the kernel takes, where --long says so. They go beside it, as a sealed
+ * memory, and what the kernel gets for them is the text `long SIZE SHA256`. What it can test no more, as the size
+ * against a door's data-min and data-max, is tested here, and a remark says so.
  */
 #include "doord.h"
 #include "sha256.h"
@@ -30,7 +30,7 @@ void tell_long(void)
 		remark("--long: a message above 4096 bytes goes beside the kernel, which has long SIZE SHA256 for it");
 }
 
-/* The size of a memory that nobody can change any more, and whose reading waits for nobody; 0 where it is none, or none of that size. */
+/* The size of a memory that nobody can change any more, and that is read without waiting; 0 where it is none. */
 static uint64_t size_of_sealed(int file)
 {
 	const int sealed = F_SEAL_WRITE | F_SEAL_SHRINK | F_SEAL_GROW;
@@ -38,7 +38,10 @@ static uint64_t size_of_sealed(int file)
 	struct statfs system;
 	struct stat found;
 
-	if (seals < 0 || (seals & sealed) != sealed || fstatfs(file, &system) < 0 || system.f_type != TMPFS_MAGIC || fstat(file, &found) < 0)
+	if (seals < 0 || (seals & sealed) != sealed)
+		return 0;
+	/* not of huge pages, of which a receiver may find none */
+	if (fstatfs(file, &system) < 0 || system.f_type != TMPFS_MAGIC || fstat(file, &found) < 0)
 		return 0;
 	return found.st_size > DATA && found.st_size <= WIRE_LONG ? (uint64_t)found.st_size : 0;
 }
@@ -61,7 +64,7 @@ static bool sum_file(int file, uint64_t size, char *text)
 	return true;
 }
 
-/* The bytes of the slot's message lie in the file: the kernel's stand in the request then. 0, or an error, and the file is closed. */
+/* The slot's message lies in the file: what the kernel gets is in the request then. 0, or an error: the file is closed. */
 int put_beside(struct slot *slot, int file, struct object **beside)
 {
 	struct wire_request *request = &slot->request;
@@ -72,7 +75,8 @@ int put_beside(struct slot *slot, int file, struct object **beside)
 		close_file(file);
 		return doord.options.takes_long ? EINVAL : ENOTSUP;
 	}
-	request->data_size = (uint32_t)snprintf((char *)request->data, sizeof request->data, "long %llu %s", (unsigned long long)size, sum);
+	char *text = (char *)request->data;
+	request->data_size = (uint32_t)snprintf(text, sizeof request->data, "long %llu %s", (unsigned long long)size, sum);
 	struct object *object = new_object();
 	object->file = file;
 	object->size = size;
@@ -104,25 +108,31 @@ bool is_refused_beside(const struct slot *slot, const struct object *door, const
 	if (size >= door->least && size <= door->most)
 		return false;
 	remark("%s: a call with %llu bytes is ENOBUFS, which the kernel was not asked: data-min is %llu, data-max %llu",
-		name_of(slot->client->place), (unsigned long long)size, (unsigned long long)door->least, (unsigned long long)door->most);
+		name_of(slot->client->place), (unsigned long long)size, (unsigned long long)door->least,
+		(unsigned long long)door->most);
 	return true;
 }
 
 /* parameters */
 
 /*
- * A data-min above what the kernel takes is beside it: the kernel has the most that it can compare with. Where one is above a data-max that
- * is to be set, what the kernel is asked is refused as well.
+ * A data-min above what the kernel takes is beside it: the kernel has the most that it can compare with. Where one is
+ * above a data-max that is to be set, what the kernel is asked is refused as well.
  */
 void ask_parameter_beside(struct asked *asked, const struct member *member, const struct object *door)
 {
-	if (!doord.options.takes_long || asked->op != KERNEL_OP_SET_PARAMETER || !door || !door->is_door || door->place != member->place)
+	const char *name = name_of(member->place);
+	unsigned long long value = asked->c;
+
+	if (!doord.options.takes_long || asked->op != KERNEL_OP_SET_PARAMETER)
 		return;
-	if (asked->b == KERNEL_PARAMETER_DATA_MIN && asked->c > DATA && asked->c <= door->most) {
-		remark("%s: data-min is %llu, of which the kernel has %d", name_of(member->place), (unsigned long long)asked->c, DATA);
+	if (!door || !door->is_door || door->place != member->place)
+		return;
+	if (asked->b == KERNEL_PARAMETER_DATA_MIN && value > DATA && value <= door->most) {
+		remark("%s: data-min is %llu, of which the kernel has %d", name, value, DATA);
 		asked->c = DATA;
-	} else if (asked->b == KERNEL_PARAMETER_DATA_MAX && asked->c >= DATA && asked->c < door->least) {
-		remark("%s: data-max %llu is below data-min, of which the kernel has %d", name_of(member->place), (unsigned long long)asked->c, DATA);
+	} else if (asked->b == KERNEL_PARAMETER_DATA_MAX && value >= DATA && value < door->least) {
+		remark("%s: data-max %llu is below data-min, of which the kernel has %d", name, value, DATA);
 		asked->c = DATA - 1;
 	}
 }
@@ -139,7 +149,9 @@ void follow_parameter(const struct wire_request *request, struct object *door)
 /* What is told of a parameter that was set so. */
 void tell_parameter(struct wire_reply *reply, const struct wire_request *request, const struct object *door)
 {
-	if (!doord.options.takes_long || !door || !door->is_door || request->b != KERNEL_PARAMETER_DATA_MIN || door->least <= DATA)
+	if (!doord.options.takes_long || request->b != KERNEL_PARAMETER_DATA_MIN)
+		return;
+	if (!door || !door->is_door || door->least <= DATA)
 		return;
 	reply->c = door->least;
 	remark("data-min is told as %llu", (unsigned long long)door->least);

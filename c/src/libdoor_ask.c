@@ -152,7 +152,8 @@ static void see_that_it_fits(const struct ask *ask)
 {
 	const struct wire_reply *reply = ask->reply;
 
-	if (reply->number == ask->number && reply->data_size <= WIRE_REPLY && reply->passed <= WIRE_PASSED && reply->files <= WIRE_REPLY_FILES)
+	if (reply->number == ask->number && reply->data_size <= WIRE_REPLY && reply->passed <= WIRE_PASSED
+		&& reply->files <= WIRE_REPLY_FILES)
 		return;
 	say("libdoor: doord's answer is not one to the question");
 	_exit(LIBDOOR_NO_BROKER);

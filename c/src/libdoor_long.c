@@ -1,6 +1,7 @@
 /*
- * libdoor_long.c: messages of more bytes than the kernel takes, where doord takes them. The bytes lie in a memory that is sealed, so that
- * nobody changes them, and go as a file does. All of it are bare system calls, which are no points of cancellation.
+ * libdoor_long.c: messages of more bytes than the kernel takes, where doord takes them. The bytes lie in a memory that is
+ * sealed, so that nobody changes them, and go as a file does. All is done by bare system calls, which are no points of
+ * cancellation.
  */
 #include "libdoor.h"
 
@@ -63,7 +64,7 @@ size_t size_beside(int file)
 	return file >= 0 && syscall(SYS_fstat, file, &found) == 0 ? (size_t)found.st_size : 0;
 }
 
-/* The argument of an invocation, as memory of its own, which is there until the thread's next one: NULL where there is no room. */
+/* The argument of an invocation, as memory of its own until the thread's next one: NULL where there is no room. */
 char *take_argument(int file, size_t *size)
 {
 	*size = size_beside(file);

@@ -58,7 +58,7 @@ static int put_items(struct ask *ask, struct sent *sent, const door_desc_t *desc
 	return 0;
 }
 
-/* The bytes, in the request or beside it, where the first file has them. Of more than doord takes go so many that the kernel says so. */
+/* The bytes, in the request or in a file beside it. Of more than doord takes go so many that the kernel says so. */
 static int put_bytes(struct ask *ask, const char *data, size_t size, int *beside)
 {
 	static _Atomic int said;

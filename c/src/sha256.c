@@ -56,7 +56,9 @@ static void add_block(uint32_t *state, const uint8_t *block)
 
 void sha256_begin(struct sha256 *sum)
 {
-	static const uint32_t first[8] = { 0x6a09e667, 0xbb67ae85, 0x3c6ef372, 0xa54ff53a, 0x510e527f, 0x9b05688c, 0x1f83d9ab, 0x5be0cd19 };
+	static const uint32_t first[8] = {
+		0x6a09e667, 0xbb67ae85, 0x3c6ef372, 0xa54ff53a, 0x510e527f, 0x9b05688c, 0x1f83d9ab, 0x5be0cd19,
+	};
 
 	memcpy(sum->state, first, sizeof first);
 	sum->size = 0;

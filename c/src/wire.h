@@ -54,8 +54,9 @@ enum {
 };
 
 /*
- * Of a request and of a reply: the bytes go beside the kernel. They are the first file of the message, a memory that is sealed against all
- * changes, of more bytes than the kernel takes and at most WIRE_LONG. Only where the welcome says that doord takes them.
+ * Of a request and of a reply: the bytes go beside the kernel. They are the first file of the message, a memory that is
+ * sealed against all changes, of more bytes than the kernel takes and at most WIRE_LONG. Only where the welcome says
+ * that doord takes them.
  */
 enum { WIRE_BESIDE = 4 };
 

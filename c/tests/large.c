@@ -1,6 +1,7 @@
 /*
- * large: messages above 4,096 bytes, run with `doord --long`; its server is a child. `large sum SIZE`: it leaves what it sends in the file `sent`.
- * `large least` has the parameters of doors, `large rain` signals, `large room` no descriptors, and `large small` is run without --long.
+ * large: messages above 4,096 bytes, run with `doord --long`; its server is a child. `large sum SIZE`: it leaves what it
+ * sends in the file `sent`. `large least` has the parameters of doors, `large rain` signals, `large room` no descriptors,
+ * and `large small` is run without --long.
  */
 #define _GNU_SOURCE 1
 #include "test.h"
@@ -60,7 +61,10 @@ static void limit_files(int is_low)
 	check(setrlimit(RLIMIT_NOFILE, &few) == 0);
 }
 
-/* By the first byte: f leaves no descriptor free, F takes that back, e echoes, d with a descriptor, s a thousand bytes for each that came, x ends the thread, c says what is open and mapped. */
+/*
+ * By the first byte: e echoes, d with a descriptor, s gives a thousand bytes for each that came, x ends the thread,
+ * f leaves no descriptor free, F takes that back, and c says what is open and mapped.
+ */
 static void serve(void *cookie, char *argument, size_t size, door_desc_t *descriptors, uint_t count)
 {
 	door_desc_t null;
@@ -152,8 +156,10 @@ static void sizes(void)
 	before = it;
 	check(door_call(door, &it) == -1 && errno == E2BIG && memcmp(&it, &before, sizeof(it)) == 0);
 	/* results alone are large */
-	check(call(&it, 's', 5, buffer, 5000) == 0 && it.data_size == 5000 && it.data_ptr == buffer && memcmp(buffer, fill, 5000) == 0);
-	check(call(&it, 's', 5, buffer, 4999) == 0 && it.data_size == 5000 && it.rbuf != buffer && memcmp(it.rbuf, fill, 5000) == 0);
+	check(call(&it, 's', 5, buffer, 5000) == 0 && it.data_size == 5000 && it.data_ptr == buffer);
+	check(memcmp(buffer, fill, 5000) == 0);
+	check(call(&it, 's', 5, buffer, 4999) == 0 && it.data_size == 5000 && it.rbuf != buffer);
+	check(memcmp(it.rbuf, fill, 5000) == 0);
 	give_back(&it);
 	check(call(&it, 's', 4, buffer, MOST) == 0 && it.data_size == 4000);
 }
@@ -168,13 +174,14 @@ static void special(void)
 	memcpy(buffer, fill, 70000);
 	buffer[0] = 'e';
 	it = (door_arg_t){ buffer, 70000, NULL, 0, buffer, 70000 };
-	check(door_call(door, &it) == 0 && it.data_ptr == buffer && it.data_size == 70000 && buffer[0] == 'E' && buffer[69999] == '!');
-	check(memcmp(buffer + 1, fill + 1, 69998) == 0);
+	check(door_call(door, &it) == 0 && it.data_ptr == buffer && it.data_size == 70000);
+	check(buffer[0] == 'E' && buffer[69999] == '!' && memcmp(buffer + 1, fill + 1, 69998) == 0);
 	for (i = 0; i < 16; i++)
 		sent[i] = null_device();
 	fill[0] = 'd';
 	it = (door_arg_t){ fill, 20000, sent, 16, buffer, 20000 };
-	check(door_call(door, &it) == 0 && it.desc_num == 1 && it.data_size == 20000 && memcmp(it.data_ptr, fill, 20000) == 0);
+	check(door_call(door, &it) == 0 && it.desc_num == 1);
+	check(it.data_size == 20000 && memcmp(it.data_ptr, fill, 20000) == 0);
 	check((char *)it.desc_ptr >= it.rbuf + 20000 && close(it.desc_ptr[0].d_data.d_desc.d_descriptor) == 0);
 	give_back(&it);
 	it = (door_arg_t){ fill, 20000, sent, 1, buffer, MOST };
@@ -196,8 +203,8 @@ static void *call_on(void *number)
 
 		memcpy(own, fill, size);
 		own[0] = 'e';
-		check(door_call(door, &it) == 0 && it.data_size == size && it.rbuf == own && own[0] == 'E' && own[size - 1] == '!');
-		check(memcmp(own + 1, fill + 1, size - 2) == 0);
+		check(door_call(door, &it) == 0 && it.data_size == size && it.rbuf == own);
+		check(own[0] == 'E' && own[size - 1] == '!' && memcmp(own + 1, fill + 1, size - 2) == 0);
 		free(own);
 	}
 	return NULL;
@@ -270,7 +277,8 @@ static void on_alarm(int number)
 	check(error == EINTR || error == EAGAIN || (error == 0 && it.data_size == sizeof(own) && it.desc_num == 1));
 	if (error != 0)
 		return;
-	check(memcmp(it.data_ptr + 1, fill + 1, sizeof(own) - 1) == 0 && close(it.desc_ptr[0].d_data.d_desc.d_descriptor) == 0);
+	check(memcmp(it.data_ptr + 1, fill + 1, sizeof(own) - 1) == 0);
+	check(close(it.desc_ptr[0].d_data.d_desc.d_descriptor) == 0);
 	if (it.rbuf != own)
 		check(munmap(it.rbuf, it.rsize) == 0);
 	handled++;
@@ -287,9 +295,11 @@ static void rain(void)
 		door_arg_t it;
 		int error = call(&it, 'd', 30000, buffer, MOST);
 
-		check(error == EINTR || (error == 0 && it.data_size == 30000 && memcmp(it.data_ptr + 1, fill + 1, 29999) == 0));
-		if (error == 0)
+		check(error == 0 || error == EINTR);
+		if (error == 0) {
+			check(it.data_size == 30000 && memcmp(it.data_ptr + 1, fill + 1, 29999) == 0);
 			check(close(it.desc_ptr[0].d_data.d_desc.d_descriptor) == 0);
+		}
 		came += error == 0;
 		ended += error == EINTR;
 	}
@@ -346,7 +356,8 @@ static void least(void)
 	check(set_and_get(DOOR_PARAM_DATA_MIN, 4096));
 	check(size_of(4095) == ENOBUFS && size_of(4096) == 0 && size_of(4097) == 0);
 	check(set_and_get(DOOR_PARAM_DATA_MIN, 5000));
-	check(size_of(100) == ENOBUFS && size_of(4096) == ENOBUFS && size_of(4999) == ENOBUFS && size_of(5000) == 0 && size_of(6000) == 0);
+	check(size_of(100) == ENOBUFS && size_of(4096) == ENOBUFS && size_of(4999) == ENOBUFS);
+	check(size_of(5000) == 0 && size_of(6000) == 0);
 	fails(door_setparam(door, DOOR_PARAM_DATA_MAX, 4999), EINVAL);
 	fails(door_setparam(door, DOOR_PARAM_DATA_MAX, 10), EINVAL);
 	fails(door_setparam(door, DOOR_PARAM_DATA_MIN, 6001), EINVAL);

@@ -1,6 +1,7 @@
 /*
- * numbers: a program that speaks to doord without the library, as hostile does. A request names a descriptor by the kernel's number and by its
- * pipe, since another thread may have closed it, and have a new one of that number: what does not fit is no descriptor.
+ * numbers: a program that speaks to doord without the library, as hostile does. A request names a descriptor by the
+ * kernel's number and by its pipe, since another thread may have closed it, and have a new one of that number: what does
+ * not fit is no descriptor.
  */
 #define main hostile_main
 #include "hostile.c"
@@ -49,8 +50,9 @@ static uint64_t make_door(void)
 
 int main(int argc, char **argv)
 {
-	static const uint32_t all[] = { KERNEL_OP_INFO, KERNEL_OP_GET_PARAMETER, KERNEL_OP_DUPLICATE, KERNEL_OP_CALL, KERNEL_OP_REVOKE,
-		KERNEL_OP_CLOSE };
+	static const uint32_t all[] = {
+		KERNEL_OP_INFO, KERNEL_OP_GET_PARAMETER, KERNEL_OP_DUPLICATE, KERNEL_OP_CALL, KERNEL_OP_REVOKE, KERNEL_OP_CLOSE,
+	};
 	uint64_t pipe;
 	size_t i;
 
