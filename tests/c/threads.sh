@@ -2,7 +2,7 @@
 # Read by tests/c.sh, which has the words that the cases use.
 
 case_main_ends_by_pthread_exit() {
-    run 'mainless server m & s=$!; doorwait m; ask m x; ask m y; kill $s; wait $s; echo "server: $?"
+    run 'mainless server m & s=$!; doorwait m; ask m x; ask m y; kill $s; wait $s 2>/dev/null; echo "server: $?"
         up serve w; doorwait w; mainless client w & c=$!; held main_ends; touch go; wait $c; echo "client: $?"' -b 'mainless=2,2,0' -b 'mainless=4,0,0'
     gives 'x: x' 'y: y' 'server: 143' answered answered answered 'the process ends' 'client: 0'
 }
