@@ -71,14 +71,21 @@ static void raise_files(void)
 		(void)setrlimit(RLIMIT_NOFILE, &most);
 }
 
+/* Those that would end doord by what they do where nobody takes them; it has its files to remove, and programs that depend on it. */
+static void choose_signals(void)
+{
+	static const int some[] = { SIGCHLD, SIGTERM, SIGHUP, SIGINT, SIGQUIT, SIGUSR1, SIGUSR2, SIGALRM, SIGVTALRM, SIGPROF, SIGXCPU, SIGIO, SIGPWR, SIGSTKFLT };
+
+	sigemptyset(&taken);
+	for (unsigned i = 0; i < sizeof some / sizeof *some; i++)
+		sigaddset(&taken, some[i]);
+	for (int number = SIGRTMIN; number <= SIGRTMAX; number++)
+		sigaddset(&taken, number);
+}
+
 void take_over_signals(void)
 {
-	sigemptyset(&taken);
-	sigaddset(&taken, SIGCHLD);
-	sigaddset(&taken, SIGTERM);
-	sigaddset(&taken, SIGHUP);
-	sigaddset(&taken, SIGINT);
-	sigaddset(&taken, SIGQUIT);
+	choose_signals();
 	/* what cannot be written is told by write(2) */
 	const struct sigaction ignored = { .sa_handler = SIG_IGN };
 	if (sigprocmask(SIG_BLOCK, &taken, &blocked) < 0 || sigaction(SIGPIPE, &ignored, &on_pipe) < 0 || sigaction(SIGXFSZ, &ignored, &on_size) < 0)

@@ -45,6 +45,11 @@ static void add_text(const char *text, size_t size)
 	history.used += size;
 }
 
+static _Noreturn void cannot_write(void)
+{
+	fail("%s: the history cannot be written: %s", doord.options.history, strerror(errno));
+}
+
 /* All lines that were made are in the file before an answer of theirs goes out. */
 void write_history(void)
 {
@@ -56,7 +61,7 @@ void write_history(void)
 			continue;
 		if (n <= 0) {
 			history.used = 0;
-			fail("%s: the history cannot be written: %s", doord.options.history, strerror(errno));
+			cannot_write();
 		}
 		done += (size_t)n;
 	}
@@ -70,13 +75,13 @@ static void open_file(const char *name)
 
 	history.file = open(name, O_WRONLY | O_CREAT | O_CLOEXEC, 0600);
 	if (history.file < 0 || fstat(history.file, &found) < 0)
-		fail("%s: %s", name, strerror(errno));
+		cannot_write();
 	if (!S_ISREG(found.st_mode))
 		return;
 	if (flock(history.file, LOCK_EX | LOCK_NB) < 0)
 		fail("%s: another doord writes it; -o FILE names another", name);
 	if (ftruncate(history.file, 0) < 0 || fchmod(history.file, 0600) < 0)
-		fail("%s: %s", name, strerror(errno));
+		cannot_write();
 }
 
 /* A kernel of the places that are laid out, and the head of its history. */
@@ -214,7 +219,7 @@ void close_history(void)
 	write_history();
 	kernel_c_close(&history.kernel);
 	if (close(history.file) < 0)
-		fail("%s: the history cannot be written: %s", doord.options.history, strerror(errno));
+		cannot_write();
 	free(history.reply);
 	free(history.bytes);
 	free(history.text);

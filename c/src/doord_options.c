@@ -22,7 +22,7 @@ static const char help[] =
 	"  --long                              messages above 4,096 bytes go beside the kernel, up to 16,777,216 (without it they are E2BIG)\n"
 	"  --no-preload                        LD_PRELOAD stays as it is\n"
 	"  --stay                              what COMMAND leaves behind is waited for (without it, it is ended once all is quiet)\n"
-	"  --help, --version\n"
+	"  -h, --help, --version\n"
 	"\n"
 	"Ends with COMMAND's status; 122 after the last event that a history may have, 125 where doord failed, 126 and 127 where COMMAND\n"
 	"could not be run, or was not found.\n";
@@ -127,7 +127,7 @@ void read_options(int count, char **words, struct options *options)
 	options->history = "doord.history";
 	for (; at < count && words[at][0] == '-' && strcmp(words[at], "--") != 0; at++) {
 		const char *word = words[at];
-		if (strcmp(word, "--help") == 0) {
+		if (strcmp(word, "--help") == 0 || strcmp(word, "-h") == 0) {
 			printf("%s%s", usage, help);
 			exit(fflush(stdout) == 0 ? 0 : DOORD_FAILED);
 		} else if (strcmp(word, "--version") == 0) {

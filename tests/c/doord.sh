@@ -71,7 +71,7 @@ case_no_history() {
     for file in /dev/full . missing/h; do
         doord_alone -o $file -- true
         ends 125
-        says_like "doord: $file: "
+        says_like "doord: $file: the history cannot be written: "
     done
     ls -ld /dev/full >"$work/full"
     doord_alone -- true
@@ -138,9 +138,13 @@ case_wrong_options() {
 case_help() {
     doord_alone --help
     grep -q '^usage: doord ' "$work/out" || wrong "--help" "usage: doord .." "$(cat "$work/out")"
-    for option in -b -l -o -S --eagain --no-preload --help --version; do
+    for option in -b -l -o -S --eagain --no-preload --stay -h --help --version; do
         grep -q -e " $option" "$work/out" || wrong "--help" "$option" "$(cat "$work/out")"
     done
+    settled
+    cp "$work/out" "$work/help"
+    doord_alone -h
+    cmp -s "$work/help" "$work/out" || wrong "-h" "what --help says" "$(cat "$work/out")"
     settled
     doord_alone --version
     grep -q '^doord [0-9]' "$work/out" && [ "$(wc -l <"$work/out")" -eq 1 ] || wrong "--version" "doord N" "$(cat "$work/out")"
@@ -336,6 +340,24 @@ case_doord_terminated() {
     finish
     ends 143
     said=yes
+}
+
+# What would end doord by itself it hands on, as it does SIGTERM: its folder goes, and the history is whole.
+case_doord_gets_other_signals() {
+    for signal in USR1 ALRM XCPU RTMIN; do
+        start 'up serve w; doorwait w; ask w "hold go x" & seen "enter c1"; echo ready; wait'
+        until_line ready
+        kill -s $signal "$(cat "$work/pid")"
+        finish
+        [ $status -gt 128 ] || wrong "status after SIG$signal" "128 and its number" "$status"
+        ended=yes
+        said=yes
+    done
+    start 'trap "exit 6" USR2; echo ready; while :; do :; done'
+    until_line ready
+    kill -s USR2 "$(cat "$work/pid")"
+    finish
+    ends 6
 }
 
 # As from a terminal: all of them are sent it, and what the shell keeps it from is ended then.
