@@ -148,7 +148,7 @@ static void take_events(const struct epoll_event *event, int count)
 
 static bool is_over(void)
 {
-	return doord.is_full || (doord.command_ended && doord.no_children && !doord.clients);
+	return doord.is_full || doord.is_stalled || (doord.command_ended && doord.no_children && !doord.clients);
 }
 
 static void serve(void)
@@ -169,28 +169,41 @@ static void serve(void)
 	}
 }
 
-/* init ends what is left, and then itself, so that the history is complete. */
-static void end_all(void)
+static void kill_places(void)
 {
-	struct asked end = { .op = KERNEL_OP_EXIT };
-
 	for (int i = 2; i <= doord.places && !doord.is_full; i++)
 		if (doord.place[i].is_born && !doord.place[i].is_spent) {
 			struct asked kill = { .op = KERNEL_OP_KILL, .a = (uint32_t)i };
 			enter_kernel(1, &kill);
 		}
+}
+
+/* init ends what is left, and then itself, so that the history is complete; at a stall those stay who wait, so that its last line names them. */
+static void end_all(void)
+{
+	struct asked end = { .op = KERNEL_OP_EXIT };
+
+	if (doord.is_stalled)
+		end_unused_threads();
+	else
+		kill_places();
 	if (!doord.is_full)
 		enter_kernel(1, &end);
 	close_history();
 }
 
-static void stop_programs(void)
+static int end_with(void)
 {
-	complain("the history has 1,000,000 events, the most that there can be: the programs are ended");
-	if (!doord.command_ended)
-		kill(doord.command, SIGTERM);
-	for (struct client *client = doord.clients; client; client = client->next)
-		(void)syscall(SYS_pidfd_send_signal, client->death, SIGTERM, NULL, 0);
+	if (doord.is_full)
+		complain("the history has 1,000,000 events, the most that there can be: the programs are ended");
+	else if (doord.is_stalled)
+		tell_stall();
+	end_all();
+	remove_files();
+	if (!doord.is_full && !doord.is_stalled)
+		return doord.command_status;
+	end_programs();
+	return doord.is_full ? DOORD_EVENTS : DOORD_STALL;
 }
 
 /* Where a standard stream is closed nothing else is to lie in its place; the command has it closed as before. */
@@ -209,6 +222,7 @@ int main(int count, char **words)
 	static struct watch on_listen = { WATCH_LISTEN, NULL, 0 }, on_signals = { WATCH_SIGNALS, NULL, 0 };
 
 	open_streams();
+	note_pipes();
 	read_options(count, words, &doord.options);
 	take_over_signals();
 	lay_out_places();
@@ -225,9 +239,5 @@ int main(int count, char **words)
 	if (!watch(doord.listener, &on_listen, EPOLLIN) || !watch(doord.signals, &on_signals, EPOLLIN))
 		fail("epoll_ctl: %s", strerror(errno));
 	serve();
-	if (doord.is_full)
-		stop_programs();
-	end_all();
-	remove_files();
-	return doord.is_full ? DOORD_EVENTS : doord.command_status;
+	return end_with();
 }

@@ -28,6 +28,7 @@ enum {
 /* statuses of doord itself, as env(1) and timeout(1) have them */
 enum {
 	DOORD_EVENTS = 122,  /* the history has as many events as it may have */
+	DOORD_STALL = 124,   /* programs wait for each other */
 	DOORD_FAILED = 125,
 	DOORD_NO_EXECUTE = 126,
 	DOORD_NO_COMMAND = 127,
@@ -172,6 +173,7 @@ struct options {
 	struct shape shape[DOORD_SHAPES];
 	unsigned shapes;
 	unsigned limit;
+	unsigned patience; /* milliseconds that those are waited for who may come back by themselves */
 	const char *history, *socket;
 	bool eagain, no_preload, stay, takes_long;
 	char **command;
@@ -193,11 +195,13 @@ struct doord {
 	struct slot **replied; /* slots whose replies are to be handed over */
 	size_t replied_count, replied_room;
 	uint64_t doors;
+	unsigned calling; /* threads that wait in a call */
 	int epoll, listener, signals;
 	pid_t command;
 	bool command_ended, no_children;
 	int command_status;
 	bool is_full; /* the history has its last event */
+	bool is_stalled; /* programs wait for each other, and nobody ends that */
 	struct wire_table *table; /* for programs to read; nothing in it is believed here */
 	char folder[64]; /* of the socket and the table, where doord made it; else empty */
 	char socket_path[108], table_path[160];
@@ -238,6 +242,7 @@ void open_kernel(void);
 bool enter_kernel(int member, const struct asked *asked);
 bool end_wait(int member);
 bool can_go_on(int member);
+bool is_running(int member);
 /* whether the line was taken */
 bool declare(const char *form, ...) __attribute__((format(printf, 1, 2)));
 void remark(const char *form, ...) __attribute__((format(printf, 1, 2)));
@@ -255,6 +260,7 @@ int find_child(int parent);
 int lend_member(struct slot *slot, bool to_serve);
 void store_member(int member);
 void member_woken(int member);
+void name_member(int member, char *name);
 void place_full(int place, const char *what);
 void see_that_served(int place);
 
@@ -346,14 +352,45 @@ void close_row(int member, uint64_t fd);
 void take_over_signals(void);
 void start_command(void);
 void take_signals(void);
+void take_ends(void);
 
-/* doord_quiet.c */
-void note_activity(void);
-int time_to_look(void);
+/* doord_look.c: what the system says of the processes below doord */
+enum { LOOK_THREADS = 4096 };
+
+struct seen {
+	pid_t process, thread;
+	unsigned long switches; /* 0 of one that waits for doord */
+};
+
+struct look {
+	bool is_still;   /* nobody runs */
+	bool is_outside; /* somebody may come back by himself, or in a read, or at descriptors */
+	bool is_movable; /* the same, but for a read or a write at a pipe that nobody outside has; or somebody is stopped, or has timers */
+	unsigned count;
+	struct seen seen[LOOK_THREADS];
+};
+
+void note_pipes(void);
 pid_t parent_of(pid_t pid);
 bool is_below(pid_t pid);
+void each_below(void (*act)(pid_t pid, void *with), void *with);
+void look_at_all(struct look *look);
+bool is_same_look(const struct look *a, const struct look *b);
+
+/* doord_quiet.c: the end of what COMMAND left behind */
+uint64_t now(void);
+void note_activity(void);
+int time_to_look(void);
 void look_around(void);
 void tell_all_below(int signal_number);
+void end_programs(void);
+
+/* doord_stall.c: calls that nobody will ever answer */
+void forget_quiet(void);
+int time_to_stall(void);
+void look_for_stall(uint64_t time);
+void tell_stall(void);
+void end_unused_threads(void);
 
 /* doord.c */
 void remove_files(void);

@@ -59,6 +59,7 @@ void forget_call(struct member *member)
 		return;
 	left_pool(member);
 	member->calls = 0;
+	doord.calling--;
 	drop(member->called);
 	member->called = NULL;
 	drop_passage(&member->sent);
@@ -273,6 +274,7 @@ void ask_call(struct slot *slot, int number)
 		return;
 	}
 	member->calls = (uint32_t)answer.number[0];
+	doord.calling++;
 	member->called = door;
 	member->is_accepted = false;
 	hold(door);

@@ -114,7 +114,7 @@ void start_command(void)
 	close(report[0]);
 }
 
-static void take_ends(void)
+void take_ends(void)
 {
 	for (;;) {
 		int status;

@@ -172,6 +172,12 @@ bool can_go_on(int member)
 	return kernel_c_runnable(&history.kernel, (uint32_t)member) == 1;
 }
 
+/* Whether it could enter the kernel. */
+bool is_running(int member)
+{
+	return kernel_c_state(&history.kernel, (uint32_t)member) == KERNEL_THREAD_RUNNING;
+}
+
 /* A line that declares a name, of the history's words. */
 bool declare(const char *form, ...)
 {

@@ -6,7 +6,7 @@
 #include <stdlib.h>
 #include <string.h>
 
-static const char usage[] = "usage: doord [-b PROGRAM=THREADS,SPARES,CHILDREN].. [-l LIMIT] [-o FILE] [-S SOCKET] [--eagain] [--long] [--no-preload] [--stay] -- COMMAND ..\n";
+static const char usage[] = "usage: doord [-b PROGRAM=THREADS,SPARES,CHILDREN].. [-l LIMIT] [-o FILE] [-S SOCKET] [--eagain] [--long] [--no-preload] [--patience SECONDS] [--stay] -- COMMAND ..\n";
 
 static const char help[] =
 	"\n"
@@ -21,11 +21,13 @@ static const char help[] =
 	"  --eagain                            the 33rd call that waits in a pool is EAGAIN (without it, it is held back until there is room)\n"
 	"  --long                              messages above 4,096 bytes go beside the kernel, up to 16,777,216 (without it they are E2BIG)\n"
 	"  --no-preload                        LD_PRELOAD stays as it is\n"
+	"  --patience SECONDS                  how long is waited for programs that sleep for a time, in a read or at descriptors, once COMMAND has\n"
+	"                                      ended; and how long all have to be quiet before a stall is said (1)\n"
 	"  --stay                              what COMMAND leaves behind is waited for (without it, it is ended once all is quiet)\n"
 	"  -h, --help, --version\n"
 	"\n"
-	"Ends with COMMAND's status; 122 after the last event that a history may have, 125 where doord failed, 126 and 127 where COMMAND\n"
-	"could not be run, or was not found.\n";
+	"Ends with COMMAND's status; 122 after the last event that a history may have, 124 where programs wait for each other in calls, 125\n"
+	"where doord failed, 126 and 127 where COMMAND could not be run, or was not found.\n";
 
 /* A program's name may have any bytes, and a terminal obeys some. */
 static void say(const char *form, va_list list)
@@ -104,6 +106,16 @@ static void read_limit(struct options *options, const char *word)
 		misused("not a limit from 1 to 256", word);
 }
 
+static void read_patience(struct options *options, const char *word)
+{
+	char *end = NULL;
+	double seconds = word ? strtod(word, &end) : -1;
+
+	if (!word || !*word || *end || !(seconds >= 0 && seconds <= 1000000))
+		misused("not a number of seconds", word);
+	options->patience = (unsigned)(seconds * 1000);
+}
+
 /* An option that takes a word. */
 static void read_pair(struct options *options, const char *option, const char *word)
 {
@@ -124,6 +136,7 @@ void read_options(int count, char **words, struct options *options)
 	int at = 1;
 
 	options->limit = DOORD_ROWS;
+	options->patience = 1000;
 	options->history = "doord.history";
 	for (; at < count && words[at][0] == '-' && strcmp(words[at], "--") != 0; at++) {
 		const char *word = words[at];
@@ -139,6 +152,9 @@ void read_options(int count, char **words, struct options *options)
 			options->takes_long = true;
 		} else if (strcmp(word, "--stay") == 0) {
 			options->stay = true;
+		} else if (strcmp(word, "--patience") == 0) {
+			read_patience(options, at + 1 < count ? words[at + 1] : NULL);
+			at++;
 		} else if (strcmp(word, "--no-preload") == 0) {
 			options->no_preload = true;
 		} else if (strlen(word) == 2 && strchr("bloS", word[1])) {

@@ -115,12 +115,27 @@ static void spell_name(const char *program, char *name, size_t most)
 		memmove(name + 2, name + 1, n), name[1] = '_';
 }
 
+/* What the history calls a thread: by its process, its kind, and its number among those of its kind. */
+void name_member(int number, char *name)
+{
+	static const char *const ending[] = { [MEMBER_KEEPER] = "_k", [MEMBER_ORDINARY] = "_", [MEMBER_SPARE] = "_s" };
+	const struct member *member = &doord.member[number];
+	const struct place *place = &doord.place[member->place];
+	unsigned count = 0;
+
+	for (int t = place->first; t <= number; t++)
+		count += doord.member[t].kind == member->kind;
+	if (member->kind == MEMBER_KEEPER)
+		snprintf(name, DOORD_NAME, "%.12s%s", place->name, ending[member->kind]);
+	else
+		snprintf(name, DOORD_NAME, "%.12s%s%u", place->name, ending[member->kind], count % 100);
+}
+
 void name_place(int number, const char *program)
 {
 	struct place *place = &doord.place[number];
-	char base[DOORD_NAME], name[DOORD_NAME + 16], line[DOORD_MEMBERS * 24];
+	char base[DOORD_NAME], name[DOORD_NAME + 16], line[DOORD_MEMBERS * 24], thread[DOORD_NAME];
 	size_t used = 0;
-	unsigned threads = 0, spares = 0;
 
 	spell_name(program, base, 10);
 	/* a second p is not p2, which is what another process is called before it has a name */
@@ -130,13 +145,8 @@ void name_place(int number, const char *program)
 		snprintf(name, sizeof name, "%s%s%u", base, between, n);
 	snprintf(place->name, sizeof place->name, "%.12s", name);
 	for (int t = place->first; t <= place->last; t++) {
-		enum member_kind kind = doord.member[t].kind;
-		if (kind == MEMBER_KEEPER)
-			used += (size_t)snprintf(line + used, sizeof line - used, " %s_k", place->name);
-		else if (kind == MEMBER_ORDINARY)
-			used += (size_t)snprintf(line + used, sizeof line - used, " %s_%u", place->name, ++threads);
-		else
-			used += (size_t)snprintf(line + used, sizeof line - used, " %s_s%u", place->name, ++spares);
+		name_member(t, thread);
+		used += (size_t)snprintf(line + used, sizeof line - used, " %s", thread);
 	}
 	if (!declare("name p%d %s%s", number, place->name, line))
 		fail("no name for %s", place->name);

@@ -8,6 +8,7 @@
 #include <linux/futex.h>
 #include <string.h>
 #include <sys/syscall.h>
+#include <sys/time.h>
 #include <unistd.h>
 
 /* The thread is in the program again; a handler that was put off runs now. */
@@ -127,6 +128,16 @@ void rouse(uint32_t index)
 	(void)syscall(SYS_futex, &connection.area->slot[index].turn, FUTEX_WAKE, 1, NULL, NULL, 0);
 }
 
+/* An alarm may end a wait that nobody else ends, and the system tells it to the program alone: so doord is told. */
+static void tell_of_alarm(struct wire_slot *slot)
+{
+	struct itimerval alarm;
+	bool is_set = syscall(SYS_getitimer, ITIMER_REAL, &alarm) == 0 && (alarm.it_value.tv_sec != 0 || alarm.it_value.tv_usec != 0);
+
+	atomic_store(&connection.area->is_timed, is_set);
+	atomic_store(&slot->looked, slot->request.number);
+}
+
 /* Sleeps a while at most. */
 static void sleep_on(struct wire_slot *slot)
 {
@@ -137,8 +148,10 @@ static void sleep_on(struct wire_slot *slot)
 	if (thread.at == AT_WAIT && !is_program_there())
 		let_signals_in();
 	atomic_compare_exchange_strong(&slot->turn, &seen, WIRE_ASLEEP);
-	if (seen != WIRE_TOLD && futex_wait(&slot->turn, WIRE_ASLEEP, &second) == ETIMEDOUT)
+	if (seen != WIRE_TOLD && futex_wait(&slot->turn, WIRE_ASLEEP, &second) == ETIMEDOUT) {
 		look_for_broker();
+		tell_of_alarm(slot);
+	}
 }
 
 /* Sleeps until the answer is there, or until a handler has taken it, or has made this process another one by fork(2). */

@@ -127,12 +127,14 @@ struct wire_reply {
 struct wire_slot {
 	_Alignas(4096) _Atomic uint32_t turn;
 	_Atomic uint32_t interrupted; /* the number of the request whose wait is to end, by a signal */
+	_Atomic uint32_t looked;      /* that of the request in whose wait the thread has looked whether an alarm is set; doord puts 0 there */
 	_Alignas(64) struct wire_request request;
 	_Alignas(64) struct wire_reply reply;
 };
 
 struct wire_area {
 	_Alignas(4096) _Atomic uint64_t asked[WIRE_SLOT_WORDS];
+	_Atomic uint32_t is_timed; /* an alarm of the program was set when one of its threads looked last */
 	struct wire_slot slot[WIRE_SLOTS];
 };
 
