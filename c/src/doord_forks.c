@@ -32,17 +32,28 @@ int place_of_token(uint32_t token)
 	return is_there && doord.place[number].is_born && !doord.place[number].is_spent ? (int)number : 0;
 }
 
+/* The child of a bound thread is bound to a door that is invalid. */
+static void bind_first(int child)
+{
+	struct object *none = new_object();
+
+	none->is_door = none->is_revoked = true;
+	none->place = child;
+	hold(none);
+	doord.member[doord.place[child].first].bound = none;
+}
+
 void ask_fork(struct slot *slot, int number)
 {
 	struct member *member = &doord.member[number];
 	struct place *place = &doord.place[member->place];
 
-	if (place->rows == 0) {
-		/* the child comes as any program does */
+	int child = find_child(member->place);
+	/* the child comes as any program does: without descriptors of doors, or where those of a client are to be dead */
+	if (place->rows == 0 || (child == 0 && place->doors == 0 && slot->request.a == 0)) {
 		begin_reply(slot, KERNEL_ANSWER_CHILD);
 		return;
 	}
-	int child = find_child(member->place);
 	if (child == 0) {
 		place_full(member->place, "children for forks");
 		reply_error(slot, EAGAIN);
@@ -56,6 +67,8 @@ void ask_fork(struct slot *slot, int number)
 		return;
 	}
 	adopt_child(child, member->place);
+	if (member->bound)
+		bind_first(child);
 	make_token(child);
 	begin_reply(slot, KERNEL_ANSWER_CHILD)->a = doord.place[child].token;
 }

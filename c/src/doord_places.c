@@ -27,8 +27,10 @@ static int add_place(const struct shape *shape, int parent)
 
 	strcpy(place->program, shape->program);
 	place->parent = parent;
-	place->first = place->keeper = add_members(number, MEMBER_KEEPER, 1);
+	/* the kernel binds a forked child's first thread as the forking one was, so the first is one that a program may have */
+	place->first = doord.members + 1;
 	add_members(number, MEMBER_ORDINARY, shape->threads);
+	place->keeper = add_members(number, MEMBER_KEEPER, 1);
 	add_members(number, MEMBER_SPARE, shape->spares);
 	place->last = doord.members;
 	return number;
@@ -242,7 +244,8 @@ static int lend(struct slot *slot, enum member_kind kind)
 
 	for (int t = place->first; t <= place->last; t++) {
 		struct member *member = &doord.member[t];
-		if (member->kind == kind && member->life == MEMBER_FREE) {
+		/* one that is free and bound is a child's first: the thread that forked has it, which has the first slot */
+		if (member->kind == kind && member->life == MEMBER_FREE && (!member->bound || slot->index == 0)) {
 			member->life = MEMBER_LENT;
 			member->slot = slot;
 			slot->member = t;
@@ -255,7 +258,9 @@ static int lend(struct slot *slot, enum member_kind kind)
 /* A thread of the slot's process, or 0 where all are lent. Who begins with door_return(3C) is a server thread, which the kernel started. */
 int lend_member(struct slot *slot, bool to_serve)
 {
-	int t = to_serve ? lend(slot, MEMBER_SPARE) : 0;
+	const struct member *first = &doord.member[doord.place[slot->client->place].first];
+	bool has_forked = slot->index == 0 && first->bound && first->life == MEMBER_FREE;
+	int t = to_serve && !has_forked ? lend(slot, MEMBER_SPARE) : 0;
 
 	return t ? t : lend(slot, MEMBER_ORDINARY);
 }

@@ -46,6 +46,7 @@ int real_remove(const char *path);
 int real_renameat(int from_directory, const char *from, int to_directory, const char *to);
 int real_renameat2(int from_directory, const char *from, int to_directory, const char *to, unsigned flags);
 pid_t real_fork(void);
+int real_daemon(int keeps_folder, int keeps_streams);
 int real_sigaction(int number, const struct sigaction *action, struct sigaction *old);
 
 enum real_signal { REAL_SIGNAL, REAL_BSD_SIGNAL, REAL_SSIGNAL, REAL_SYSV_SIGNAL, REAL_OTHER_SYSV_SIGNAL, REAL_SIGSET, REAL_SIGNALS };
@@ -225,11 +226,13 @@ void forget_argument(void);
 struct stand_in {
 	uint32_t row, pipe;
 	int flags; /* the access mode, O_CLOEXEC, O_NONBLOCK and O_APPEND */
+	bool is_dead; /* it stood for one in the parent of this process, which has none of them */
 };
 
 struct stand_in stand_in_at(int fd);
 bool may_be_stand_in(int fd);
 bool is_stand_in_found(int fd, const struct stat *found);
+void tell_dead(const struct stand_in *it);
 void name_descriptor(struct wire_request *request, const struct stand_in *it);
 void set_flags(int fd, int which, int flags);
 void close_pipe(const int *end);

@@ -15,6 +15,7 @@
 /* A descriptor in the table: below, the kernel's number and one, 0 where there is none; then what fcntl(2) tells of it; above, the pipe. */
 enum {
 	ENTRY_ROW = 0xffff,
+	ENTRY_DEAD = 0xffff,    /* in place of a row: it stood for one in the parent, and stands for nothing here */
 	ENTRY_CLOSES = 1 << 16, /* FD_CLOEXEC, as the program has it */
 	ENTRY_MODE = 17,        /* from this bit on O_RDONLY, O_WRONLY or O_RDWR */
 	ENTRY_NO_WAIT = 1 << 19, /* O_NONBLOCK */
@@ -39,6 +40,9 @@ static struct stand_in read_entry(uint64_t entry)
 {
 	struct stand_in it = { .row = (uint32_t)(entry & ENTRY_ROW) - 1, .pipe = (uint32_t)(entry >> ENTRY_PIPE) };
 
+	it.is_dead = (entry & ENTRY_ROW) == ENTRY_DEAD;
+	if (it.is_dead)
+		it.row = WIRE_NO_FD;
 	it.flags = (int)(entry >> ENTRY_MODE & O_ACCMODE) | (entry & ENTRY_CLOSES ? O_CLOEXEC : 0)
 		| (entry & ENTRY_NO_WAIT ? O_NONBLOCK : 0) | (entry & ENTRY_APPENDS ? O_APPEND : 0);
 	return it;
@@ -96,9 +100,20 @@ struct stand_in stand_in_at(int fd)
 	return it;
 }
 
+/* A door of the parent's is used in a child that was given none. */
+void tell_dead(const struct stand_in *it)
+{
+	static _Atomic int said;
+
+	if (it->is_dead)
+		say_once(&said, "libdoor: EBADF: the doors of a program are in its forked child where doord has a child in store for it: "
+			"doord -b PROGRAM=THREADS,SPARES,CHILDREN");
+}
+
 /* An operand of a request. */
 void name_descriptor(struct wire_request *request, const struct stand_in *it)
 {
+	tell_dead(it);
 	request->a = it->row;
 	request->d = it->pipe;
 }
@@ -240,6 +255,14 @@ static bool allow_all(struct rlimit *limit)
 	return setrlimit(RLIMIT_NOFILE, &most) == 0;
 }
 
+/* It stands for nothing, but its number stays taken, by a pipe of this process: the parent's tells doord of the parent. */
+static void end_stand_in(int fd, const struct stand_in *it, const int *end)
+{
+	if (real_dup3(end[1], fd, O_CLOEXEC) == fd)
+		put_entry(fd, ENTRY_DEAD - 1, it->flags);
+	close_pipe(end);
+}
+
 /*
  * In a forked child: each is changed for one of its own, since those that it has are the parent's. Where it has no rows they stand for
  * nothing, but their numbers stay taken.
@@ -252,14 +275,12 @@ void renew_stand_ins(bool have_rows)
 	for (int fd = next_stand_in(0); fd >= 0; fd = next_stand_in(fd + 1)) {
 		struct stand_in it = take_stand_in(fd);
 		int end[2];
-		if (it.row == WIRE_NO_FD || pipe2(end, O_CLOEXEC) < 0)
+		if ((it.row == WIRE_NO_FD && !it.is_dead) || pipe2(end, O_CLOEXEC) < 0)
 			continue;
-		if (have_rows) {
+		if (have_rows && !it.is_dead)
 			(void)new_stand_in_at(it.row, it.flags, fd, end);
-		} else {
-			(void)real_dup3(end[1], fd, O_CLOEXEC);
-			close_pipe(end);
-		}
+		else
+			end_stand_in(fd, &it, end);
 	}
 	if (is_low)
 		(void)setrlimit(RLIMIT_NOFILE, &limit);

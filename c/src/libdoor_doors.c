@@ -147,6 +147,7 @@ EXPORT int door_info(int fd, door_info_t *info)
 	struct ask ask;
 
 	if (fd != DOOR_QUERY && it.row == WIRE_NO_FD) {
+		tell_dead(&it);
 		errno = EBADF;
 		return -1;
 	}

@@ -1,6 +1,10 @@
 /*
- * libdoor_fork.c: fork(2). The kernel's fork comes first, and its child is then this child. The handlers of pthread_atfork(3) do what the
- * system's library has to do for forks of its own, as in daemon(3).
+ * libdoor_fork.c: fork(2) and daemon(3). The kernel's fork comes first, and its child is then this child. The handlers of pthread_atfork(3)
+ * do what is to be done for forks that the system's library makes by itself, as in forkpty(3).
+ *
+ * Where the kernel has no child in store a program that has made a door is told EAGAIN: it might be a daemon whose parent ends. Others fork
+ * all the same, mostly to become another program, and their child's descriptors of doors are dead. Who calls daemon(3) wants to go on with
+ * what it has, so there both are told EAGAIN.
  */
 #include "libdoor.h"
 
@@ -16,11 +20,14 @@ static __thread struct {
 	uint64_t mask;     /* that the lock wants back */
 } forking __attribute__((tls_model("initial-exec")));
 
-static int ask_fork(void)
+static int ask_fork(bool goes_on)
 {
 	struct ask ask;
 
-	if (begin_ask(&ask, KERNEL_OP_FORK) < 0 || ask_simply(&ask) < 0)
+	if (begin_ask(&ask, KERNEL_OP_FORK) < 0)
+		return -1;
+	ask.request->a = goes_on;
+	if (ask_simply(&ask) < 0)
 		return -1;
 	forking.token = ask.a;
 	forking.is_asked = true;
@@ -34,7 +41,7 @@ static void before_fork(void)
 	if (!forking.is_asked)
 		forking.token = 0;
 	if (forking.is_connected && !forking.is_asked)
-		(void)ask_fork();
+		(void)ask_fork(false);
 	forking.mask = take_lock();
 	/* another thread has connected meanwhile: the child is one of before, but it has what was made since, and forgets it */
 	if (!forking.is_connected)
@@ -57,7 +64,12 @@ static void after_fork_in_child(void)
 		forget_files();
 		forget_doors();
 		forget_servers();
-		renew_stand_ins(forking.token != 0 && connect_broker(forking.token) == 0);
+		bool has_doors = forking.token != 0 && connect_broker(forking.token) == 0;
+		renew_stand_ins(has_doors);
+		/* to doord the first slot is the one of the thread that has forked */
+		if (has_doors)
+			(void)take_slot();
+		forking.token = 0;
 	}
 	give_lock(forking.mask);
 	forking.is_asked = false;
@@ -87,10 +99,22 @@ static void tell_fork(pid_t pid)
 EXPORT pid_t fork(void)
 {
 	forking.token = 0;
-	if (is_connected_here() && ask_fork() < 0)
+	if (is_connected_here() && ask_fork(false) < 0)
 		return -1;
 	pid_t pid = real_fork();
 	if (pid != 0)
 		tell_fork(pid);
 	return pid;
+}
+
+/* The parent ends in it, and the child comes back: here the token is the child's no more, but where there is no child it is still there. */
+EXPORT int daemon(int keeps_folder, int keeps_streams)
+{
+	forking.token = 0;
+	if (is_connected_here() && ask_fork(true) < 0)
+		return -1;
+	int result = real_daemon(keeps_folder, keeps_streams);
+	if (forking.token != 0)
+		tell_fork(-1);
+	return result;
 }

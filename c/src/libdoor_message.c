@@ -16,7 +16,8 @@ static uint64_t item_of(int fd, bool is_released, int *file)
 	*file = -1;
 	if (it.row != WIRE_NO_FD)
 		return it.row | released | (uint64_t)it.pipe << WIRE_PIPE;
-	if (is_kept(fd) || real_fcntl(fd, F_GETFD, NULL) < 0)
+	tell_dead(&it);
+	if (it.is_dead || is_kept(fd) || real_fcntl(fd, F_GETFD, NULL) < 0)
 		return WIRE_NO_FD;
 	*file = fd;
 	return WIRE_FILE | WIRE_NO_FD | released;

@@ -22,6 +22,7 @@ enum real {
 	REAL_RENAMEAT,
 	REAL_RENAMEAT2,
 	REAL_FORK,
+	REAL_DAEMON,
 	REAL_SIGACTION,
 	REALS,
 };
@@ -49,6 +50,7 @@ static const char *const name_of[REALS] = {
 	[REAL_RENAMEAT] = "renameat",
 	[REAL_RENAMEAT2] = "renameat2",
 	[REAL_FORK] = "fork",
+	[REAL_DAEMON] = "daemon",
 	[REAL_SIGACTION] = "sigaction",
 };
 
@@ -190,6 +192,13 @@ pid_t real_fork(void)
 	pid_t (*function)(void);
 
 	return find(REAL_FORK, &function) ? function() : -1;
+}
+
+int real_daemon(int keeps_folder, int keeps_streams)
+{
+	int (*function)(int, int);
+
+	return find(REAL_DAEMON, &function) ? function(keeps_folder, keeps_streams) : -1;
 }
 
 int real_sigaction(int number, const struct sigaction *action, struct sigaction *old)

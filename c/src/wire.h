@@ -69,7 +69,8 @@ enum { WIRE_BESIDE = 4 };
  *   getparam   a, b kernel's number of the parameter;  setparam  also c
  *   attach     a, one file with the control socket: the path, opened with O_PATH; data: its text, absolute
  *   detach, open, await   c device, d inode of the file
- *   fork       the child may be made; the reply's a is its token, 0 where it has no rows and is nobody yet
+ *   fork       the child may be made; a 1: not without the doors that there are; the reply's a is its token, 0 where it has no rows and
+ *              is nobody yet
  * Where a is a descriptor, d is the number of the pipe that stands for it: another thread may have closed it meanwhile, and the kernel's
  * number may be another one's. Where it does not fit, a is no descriptor; 0 fits always.
  * An item is a descriptor of the kernel with WIRE_RELEASE where it is released, and the pipe's number from the bit WIRE_PIPE on; or WIRE_FILE

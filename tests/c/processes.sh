@@ -6,13 +6,24 @@ case_forks() {
     gives 'child without: ok' 'parent: ok' 'child with: ok' 'child with: ok' 'parent: ok'
 }
 
+# A client's child has dead doors then, and may have its own. One that made a door does not fork, nor does one that would be a daemon.
 case_forks_without_a_child_in_store() {
     run 'up serve w; doorwait w; forks 1'
-    gives 'child without: ok' 'parent: ok' 'fork: EAGAIN' 'parent: ok'
-    says_like 'forks.*-b forks='
+    gives 'child without: ok' 'parent: ok' 'child with: EBADF' 'parent: ok'
+    says_like 'libdoor: EBADF: .*-b PROGRAM='
     run 'up serve w; doorwait w; forks 2' -b 'forks=2,0,1'
-    gives 'child without: ok' 'parent: ok' 'child with: ok' 'fork: EAGAIN' 'parent: ok'
-    says_like 'forks.*-b forks='
+    gives 'child without: ok' 'parent: ok' 'child with: ok' 'child with: EBADF' 'parent: ok'
+    says_like 'libdoor: EBADF: .*-b PROGRAM='
+    run 'up serve w; doorwait w; heirs client; heirs server'
+    gives 'client: done' 'server: done'
+    says 'doord: heirs: EAGAIN: all children for forks that it has are in use; -b heirs=THREADS,SPARES,CHILDREN gives it more' \
+        'libdoor: EBADF: the doors of a program are in its forked child where doord has a child in store for it: doord -b PROGRAM=THREADS,SPARES,CHILDREN'
+}
+
+# A shell, and what it pipes into, with a door at one of its descriptors.
+case_shell_with_a_door() {
+    run 'up serve w; doorwait w; sh -c "exec 3<>w; echo a | cat; x=\$(echo b); echo \$x; (echo c); cat </dev/null & wait"'
+    gives a b c
 }
 
 case_forks_of_a_server() {
@@ -66,6 +77,20 @@ case_daemon() {
     gives 'echo x: x'
 }
 
+# daemon(3) and a double fork before doors are made, and daemon(3) after it: the door is the parent's, and ends with it.
+case_daemons() {
+    run 'heirs before b; doorwait b; ask b x; heirs double d; doorwait d; ask d x; touch end' -b 'heirs=2,2,0'
+    gives 'x: before' 'x: double'
+    run 'heirs after a; doorwait a; ask a x; touch end' -b 'heirs=2,2,1'
+    gives 'the door of the parent: EBADF' 'x: after'
+}
+
+# hundreds of programs, one after the other, each in a session of its own
+case_hundreds_of_programs() {
+    run 'up serve w; doorwait w; i=0; while [ $i -lt 150 ]; do setsid ask w "echo $i"; ask w "echo $i" | cat; i=$((i + 1)); done | uniq -c | wc -l'
+    gives 150
+}
+
 case_main_serves() {
     run 'up helper h main; pid=$!; doorwait h; ask -n 200 h echo; ask h "quit 1234"; wait $pid; echo "helper: $?"'
     gives '200 ok' 'quit 1234: EINTR' 'helper: 5'
@@ -80,4 +105,9 @@ case_closes_all() {
     run 'up serve w; doorwait w; closes all; [ $? -ne 0 ] && echo ended; ask w "echo x"'
     gives ended 'echo x: x'
     says_like 'libdoor: ' 2
+}
+
+case_forks_of_bound_threads() {
+    run bound -b 'bound=5,0,2'
+    gives 'done'
 }
