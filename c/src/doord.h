@@ -263,6 +263,8 @@ void member_woken(int member);
 void name_member(int member, char *name);
 void place_full(int place, const char *what);
 void see_that_served(int place);
+void see_places_left(void);
+void no_place(const char *program);
 
 /* doord_limits.c: limits that are said where a program meets them */
 enum limit { LIMIT_ROWS, LIMIT_QUEUE, LIMIT_PROCEDURES, LIMIT_PATHS };

@@ -324,8 +324,7 @@ static void welcome(struct client *client, const struct wire_message *hello)
 	int place = place_for(client, hello->token, program);
 	if (place == 0) {
 		close(file[0]);
-		if (is_news(program))
-			complain("%s: EAGAIN: no process of the kernel is free for it; -b %s=THREADS,SPARES,CHILDREN keeps one", program, program);
+		no_place(program);
 		refuse_hello(client, EAGAIN);
 		return;
 	}
@@ -335,6 +334,7 @@ static void welcome(struct client *client, const struct wire_message *hello)
 	client->ruid = (uid_t)hello->ruid;
 	client->rgid = (gid_t)hello->rgid;
 	remark("pid %d, %s, is %s", (int)client->pid, program, doord.place[place].name);
+	see_places_left();
 	for (unsigned row = 0; row < DOORD_ROWS; row++)
 		if (doord.place[place].row[row])
 			expect_stand_in(client, row); /* a forked child makes its own */

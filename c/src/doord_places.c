@@ -3,6 +3,8 @@
 
 #include <string.h>
 
+enum { FEW_LEFT = 2 }; /* processes: one for a server, and one for its client */
+
 static unsigned members_of(const struct shape *shape)
 {
 	return 1 + shape->threads + shape->spares;
@@ -288,6 +290,44 @@ void member_woken(int number)
 		if (place->client)
 			place->client->spawn++;
 	}
+}
+
+/* Processes for any program: how many are used up, and how many are left. */
+static void count_places(unsigned *spent, unsigned *left)
+{
+	*spent = *left = 0;
+	for (int i = 2; i <= doord.places; i++)
+		if (strcmp(doord.place[i].program, "*") == 0 && doord.place[i].parent == 0)
+			(*(doord.place[i].is_spent ? spent : left))++;
+}
+
+/* A program has come. Those that made doors and have ended used up their processes: that few are left is said before none is. */
+void see_places_left(void)
+{
+	static bool is_told;
+	unsigned spent, left;
+
+	count_places(&spent, &left);
+	if (is_told || spent == 0 || left > FEW_LEFT || spent < left)
+		return;
+	is_told = true;
+	complain("%u processes of the kernel are used up by programs that made doors and have ended, and %u are left; -b '*=1,1,0' makes more that are smaller",
+		spent, left);
+}
+
+/* A program finds no process. */
+void no_place(const char *program)
+{
+	unsigned spent, left;
+
+	if (!is_news(program))
+		return;
+	count_places(&spent, &left);
+	if (spent > 0)
+		complain("%s: EAGAIN: no process of the kernel is free for it; -b %s=THREADS,SPARES,CHILDREN keeps one (%u are used up by programs that made doors and have ended)",
+			program, program, spent);
+	else
+		complain("%s: EAGAIN: no process of the kernel is free for it; -b %s=THREADS,SPARES,CHILDREN keeps one", program, program);
 }
 
 /* Somebody was told EAGAIN for want of this. It is said once of a place. */

@@ -46,10 +46,7 @@ static bool is_asleep(const struct look *look)
 static void ask_for_alarms(void)
 {
 	for (struct client *client = doord.clients; client; client = client->next) {
-		if (!client->area)
-			continue;
-		atomic_store(&client->area->is_timed, 0);
-		for (unsigned i = 0; i < WIRE_SLOTS; i++)
+		for (unsigned i = 0; client->area && i < WIRE_SLOTS; i++)
 			atomic_store(&client->area->slot[i].looked, 0);
 	}
 }
@@ -60,7 +57,7 @@ static bool are_alarms_known(bool *is_any)
 	for (const struct client *client = doord.clients; client; client = client->next) {
 		if (!client->area || !client->slot)
 			continue;
-		if (atomic_load(&client->area->is_timed))
+		if (atomic_load(&client->area->has_alarm))
 			*is_any = true;
 		for (unsigned i = 0; i < WIRE_SLOTS; i++)
 			if (client->slot[i].is_busy && atomic_load(&client->area->slot[i].looked) != client->slot[i].request.number)

@@ -12,6 +12,7 @@
 #include <stddef.h>
 #include <stdint.h>
 #include <sys/stat.h>
+#include <sys/time.h>
 #include <sys/types.h>
 #include <time.h>
 
@@ -47,6 +48,9 @@ int real_renameat(int from_directory, const char *from, int to_directory, const 
 int real_renameat2(int from_directory, const char *from, int to_directory, const char *to, unsigned flags);
 pid_t real_fork(void);
 int real_daemon(int keeps_folder, int keeps_streams);
+unsigned real_alarm(unsigned seconds);
+useconds_t real_ualarm(useconds_t first, useconds_t next);
+int real_setitimer(int which, const struct itimerval *value, struct itimerval *old);
 int real_sigaction(int number, const struct sigaction *action, struct sigaction *old);
 
 enum real_signal { REAL_SIGNAL, REAL_BSD_SIGNAL, REAL_SSIGNAL, REAL_SYSV_SIGNAL, REAL_OTHER_SYSV_SIGNAL, REAL_SIGSET, REAL_SIGNALS };
@@ -98,6 +102,10 @@ static inline bool is_kept(int fd)
 	return fd >= 0 && (fd == atomic_load_explicit(&connection.control, memory_order_relaxed)
 		|| fd == atomic_load_explicit(&connection.bell, memory_order_relaxed));
 }
+
+/* libdoor_alarm.c */
+bool is_alarm_set(void);
+void tell_alarm(void);
 
 /* libdoor_files.c: ordinary files that are passed */
 int send_files(uint32_t slot, uint32_t number, const int *file, unsigned files);

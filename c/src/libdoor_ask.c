@@ -8,7 +8,6 @@
 #include <linux/futex.h>
 #include <string.h>
 #include <sys/syscall.h>
-#include <sys/time.h>
 #include <unistd.h>
 
 /* The thread is in the program again; a handler that was put off runs now. */
@@ -131,10 +130,7 @@ void rouse(uint32_t index)
 /* An alarm may end a wait that nobody else ends, and the system tells it to the program alone: so doord is told. */
 static void tell_of_alarm(struct wire_slot *slot)
 {
-	struct itimerval alarm;
-	bool is_set = syscall(SYS_getitimer, ITIMER_REAL, &alarm) == 0 && (alarm.it_value.tv_sec != 0 || alarm.it_value.tv_usec != 0);
-
-	atomic_store(&connection.area->is_timed, is_set);
+	tell_alarm();
 	atomic_store(&slot->looked, slot->request.number);
 }
 

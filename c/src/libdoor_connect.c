@@ -240,6 +240,7 @@ int connect_broker(uint32_t token)
 	atomic_store(&connection.pid, getpid());
 	atomic_store(connection.mark, true);
 	atomic_store_explicit(&connection.is_open, true, memory_order_release);
+	tell_alarm();
 	wrap_handlers();
 	return 0;
 }

@@ -23,6 +23,9 @@ enum real {
 	REAL_RENAMEAT2,
 	REAL_FORK,
 	REAL_DAEMON,
+	REAL_ALARM,
+	REAL_UALARM,
+	REAL_SETITIMER,
 	REAL_SIGACTION,
 	REALS,
 };
@@ -51,6 +54,9 @@ static const char *const name_of[REALS] = {
 	[REAL_RENAMEAT2] = "renameat2",
 	[REAL_FORK] = "fork",
 	[REAL_DAEMON] = "daemon",
+	[REAL_ALARM] = "alarm",
+	[REAL_UALARM] = "ualarm",
+	[REAL_SETITIMER] = "setitimer",
 	[REAL_SIGACTION] = "sigaction",
 };
 
@@ -199,6 +205,27 @@ int real_daemon(int keeps_folder, int keeps_streams)
 	int (*function)(int, int);
 
 	return find(REAL_DAEMON, &function) ? function(keeps_folder, keeps_streams) : -1;
+}
+
+unsigned real_alarm(unsigned seconds)
+{
+	unsigned (*function)(unsigned);
+
+	return find(REAL_ALARM, &function) ? function(seconds) : 0;
+}
+
+useconds_t real_ualarm(useconds_t first, useconds_t next)
+{
+	useconds_t (*function)(useconds_t, useconds_t);
+
+	return find(REAL_UALARM, &function) ? function(first, next) : 0;
+}
+
+int real_setitimer(int which, const struct itimerval *value, struct itimerval *old)
+{
+	int (*function)(int, const struct itimerval *, struct itimerval *);
+
+	return find(REAL_SETITIMER, &function) ? function(which, value, old) : -1;
 }
 
 int real_sigaction(int number, const struct sigaction *action, struct sigaction *old)

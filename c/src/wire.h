@@ -135,7 +135,7 @@ struct wire_slot {
 
 struct wire_area {
 	_Alignas(4096) _Atomic uint64_t asked[WIRE_SLOT_WORDS];
-	_Atomic uint32_t is_timed; /* an alarm of the program was set when one of its threads looked last */
+	_Atomic uint32_t has_alarm; /* an alarm of the program was set when it set one last, or when a thread of it that waits looked */
 	struct wire_slot slot[WIRE_SLOTS];
 };
 

@@ -2,6 +2,7 @@
  * heirs WHAT PATH: programs that fork, and what becomes of their doors.
  *
  * client, server: no child is in store for them; a client of w, and one with a door of its own
+ * among:          a client of w that forks while its other threads call; three children are in store
  * before, double: a daemon by daemon(3), by a double fork, which then makes the door at PATH
  * after:          makes the door at PATH, becomes a daemon, and makes it anew, since the first was its parent's
  */
@@ -99,6 +100,53 @@ static void be_server(void)
 	check(ask(door, "x", answer, sizeof(answer)) == 0 && strcmp(answer, "own") == 0);
 }
 
+static int shared;
+static _Atomic int is_over, served, others;
+
+static void *call_on(void *unused)
+{
+	char came[16];
+
+	while (!is_over) {
+		int error = ask(shared, "echo x", came, sizeof(came));
+
+		if (error == 0 && strcmp(came, "x") == 0)
+			served++;
+		else if (error != EINTR)
+			others++;
+	}
+	return unused;
+}
+
+/* The first three children have the door, the next two a dead one, and the others become another program. */
+static void fork_among(void)
+{
+	pthread_t caller[4];
+	int i;
+
+	shared = open("w", O_RDWR);
+	for (i = 0; i < 4; i++)
+		caller[i] = thread_of(call_on, NULL);
+	for (i = 0; i < 30; i++) {
+		int before = served;
+		pid_t child = fork();
+
+		if (child == 0 && i < 5)
+			_exit(ask(shared, "echo x", answer, sizeof(answer)) == (i < 3 ? 0 : EBADF) ? 4 : 9);
+		if (child == 0) {
+			execlp("sh", "sh", "-c", "exit 4", (char *)NULL);
+			_exit(9);
+		}
+		check(child > 0 && end_of(child) == 4);
+		while (served == before)
+			usleep(1000);
+	}
+	is_over = 1;
+	for (i = 0; i < 4; i++)
+		pthread_join(caller[i], NULL);
+	check(others == 0);
+}
+
 static void fork_twice(void)
 {
 	for (int i = 0; i < 2; i++) {
@@ -139,6 +187,8 @@ int main(int argc, char **argv)
 {
 	if (argc == 2 && strcmp(argv[1], "client") == 0)
 		be_client();
+	else if (argc == 2 && strcmp(argv[1], "among") == 0)
+		fork_among();
 	else if (argc == 2)
 		be_server();
 	else if (argc == 3)

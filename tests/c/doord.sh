@@ -116,6 +116,41 @@ case_history_ends_early() {
     [ -z "$(ls -A "$work/t")" ] || wrong "the socket's folder" "nothing of it is left" "$(ls -A "$work/t")"
 }
 
+# The disk is full, or whoever read the history has gone: the programs are told that doord is gone, and what was written is legal.
+case_history_is_cut() {
+    cat >"$work/calls" <<'END'
+serve w & pid=$!
+doorwait w
+ask -n 1000 w "echo $(printf %0900d 0)"
+echo "ask: $?"
+wait $pid
+echo "serve: $?"
+END
+    fresh
+    mkfifo "$work/d/fifo"
+    head -c 150000 "$work/d/fifo" >"$work/d/copy" &
+    doord_here -o fifo -- sh "$work/calls"
+    ends 125
+    wait $!
+    until_line '^serve: '
+    gives 'ask: 125' 'serve: 125'
+    grep -q '^doord: fifo: the history cannot be written: Broken pipe$' "$work/err" || wrong "error stream" "doord: fifo: .." "$(cat "$work/err")"
+    says_like 'libdoor: doord is gone|doord: fifo: the history cannot be written: ' 9
+    sed '$d' "$work/d/copy" >"$work/most"
+    "$DOORLAB" history "$work/most" >"$work/verdict" 2>&1 || wrong "the history up to then" "legal N" "$(cat "$work/verdict")"
+    fresh
+    mkdir "$work/d/disk"
+    unshare -m sh -c 'mount -t tmpfs -o size=128k none "$1"' sh "$work/d/disk" 2>/dev/null || return
+    doord=$doord calls=$work/calls PATH=$bin:$out:$PATH TMPDIR=$work/t unshare -m sh -c 'mount -t tmpfs -o size=128k none "$1" && cd "$1/.." || exit 1
+        "$doord" -o disk/h -- sh "$calls"; echo "doord: $?"; cp disk/h h' sh "$work/d/disk" >"$work/out" 2>"$work/err" </dev/null
+    until_line '^serve: '
+    gives_sorted 'ask: 125' 'doord: 125' 'serve: 125'
+    grep -q '^doord: disk/h: the history cannot be written: No space left on device$' "$work/err" || wrong "error stream" "doord: disk/h: .." "$(cat "$work/err")"
+    sed '$d' "$work/d/h" >"$work/most"
+    "$DOORLAB" history "$work/most" >"$work/verdict" 2>&1 || wrong "the history up to then" "legal N" "$(cat "$work/verdict")"
+    [ -z "$(ls -A "$work/t")" ] || wrong "the socket's folder" "nothing of it is left" "$(ls -A "$work/t")"
+}
+
 case_wrong_options() {
     for words in '' '-o' '-o h' '-x -- true' '-b -- true' '-b serve -- true' '-b serve=1 -- true' '-b serve=1,2 -- true' '-b serve=1,2,3,4 -- true' \
         '-b =1,2,3 -- true' '-b serve=a,b,c -- true' '-b serve=1,2,-1 -- true' '-b serve=1,2,3x -- true' '-b serve=99999999999999999999,0,0 -- true' \

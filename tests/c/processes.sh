@@ -20,6 +20,13 @@ case_forks_without_a_child_in_store() {
         'libdoor: EBADF: the doors of a program are in its forked child where doord has a child in store for it: doord -b PROGRAM=THREADS,SPARES,CHILDREN'
 }
 
+# Calls of other threads go on, or end with EINTR.
+case_forks_among_calls() {
+    run 'up serve w; doorwait w; heirs among' -b 'serve=1,4,0' -b 'heirs=5,0,3'
+    gives 'among: done'
+    says_like 'libdoor: EBADF: .*-b PROGRAM=' 2
+}
+
 # A shell, and what it pipes into, with a door at one of its descriptors.
 case_shell_with_a_door() {
     run 'up serve w; doorwait w; sh -c "exec 3<>w; echo a | cat; x=\$(echo b); echo \$x; (echo c); cat </dev/null & wait"'
@@ -89,6 +96,17 @@ case_daemons() {
 case_hundreds_of_programs() {
     run 'up serve w; doorwait w; i=0; while [ $i -lt 150 ]; do setsid ask w "echo $i"; ask w "echo $i" | cat; i=$((i + 1)); done | uniq -c | wc -l'
     gives 150
+}
+
+# Each uses up a process of the kernel. Nine may come, and where clients come too, eight: before that is said what helps.
+case_servers_one_after_the_other() {
+    run 'i=0; while [ $i -lt 9 ]; do i=$((i + 1)); serve w & seen " attach " $i; kill $!; wait $! 2>/dev/null; seen "init kill" $i; rm w; done; serve w'
+    ends 3
+    gives 'door_create: EAGAIN'
+    says_like "doord: (7 processes of the kernel are used up .*, and 2 are left; -b '\*=1,1,0' .*|serve: EAGAIN: no process .* \(9 are used up .*\))$" 2
+    run 'i=0; while [ $i -lt 20 ]; do i=$((i + 1)); serve w & doorwait w; ask w "echo $i"; kill $!; wait $! 2>/dev/null; seen "init kill" $i; rm w; done' -b '*=1,1,0'
+    [ "$(wc -l <"$work/out")" -eq 20 ] || wrong "output" "20 lines" "$(cat "$work/out")"
+    says_like 'doord: 19 processes of the kernel are used up .*, and 2 are left'
 }
 
 case_main_serves() {

@@ -46,20 +46,21 @@ case_stall_of_what_is_left() {
     ends_stalled 'end open N' '(programs wait in calls, .*|ask_1 .* has it, and sleeps in its procedure)$'
 }
 
-# No stall is where somebody comes back by himself, or somebody outside can do something: an alarm is set, timeout(1) waits, a program is
-# stopped, one reads what comes from outside, or nobody waits in a call. These doords stand side by side, each for longer than a stall takes.
+# No stall is where somebody comes back by himself, or somebody outside can do something: an alarm is set, by a client, or in a
+# procedure of a server of which no thread waits; timeout(1) waits, a program is stopped, one reads what comes from outside, or nobody waits in a call. These doords stand side by side, each for longer than a stall takes.
 case_no_stall() {
     run 'one() { name=$1; shift; doord --patience 0.2 -o "h$name" -- sh -c "$@"; echo "$name: $?"; }
         begin="sleeps s\$0 & pid=\$!; doorwait s\$0;"
         one alarm "$begin ask -h sigaction -a 3 s\$0 lock; kill \$pid" alarm &
+        one procedure "sleeps -p s\$0 & doorwait s\$0; ask s\$0 alarm; kill \$!" procedure &
         one timer "$begin timeout 3 ask s\$0 lock; echo \$?; kill \$pid" timer &
         one stopped "$begin kill -STOP \$pid; echo \$pid >stopped; ask s\$0 stopped; kill \$pid" stopped &
         sleep 3 | one reads "$begin ask s\$0 lock & asks=\$!; read none; kill \$asks \$pid" reads &
         one server "echo \$\$ >server; trap \"exit 7\" USR1; sleeps sserver & wait \$!" &
         held stopped; held server; sleep 3; kill -CONT $(cat stopped); kill -USR1 $(cat server); wait'
-    gives_sorted 'lock: EINTR' 'handled 1' 'alarm: 0' 124 'timer: 0' 'stopped: awake' 'stopped: 0' 'reads: 0' 'server: 7'
+    gives_sorted 'lock: EINTR' 'handled 1' 'alarm: 0' 'alarm: awake' 'procedure: 0' 124 'timer: 0' 'stopped: awake' 'stopped: 0' 'reads: 0' 'server: 7'
     says_like 'doord: sh has ended: SIGTERM to what it left'
-    for file in alarm timer stopped reads server; do
+    for file in alarm procedure timer stopped reads server; do
         legal "$work/d/h$file"
     done
 }
