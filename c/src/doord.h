@@ -73,6 +73,9 @@ struct member {
 	bool awaits;           /* it waits for a path */
 	bool is_ready;         /* it stands among those that may go on */
 	uint32_t serves;       /* the call of its invocation; 0 of a notice, or where there is none */
+	uint32_t invocation;   /* the number of the request that was answered by it */
+	bool is_left;          /* the client has left that call, and the kernel was not asked yet whether the server is told */
+	bool is_to_be_told;    /* it is, and was not yet */
 	uint32_t calls;        /* the call that it waits for, or 0 */
 	bool is_accepted;      /* that call was accepted, or has left the pool */
 	struct object *called; /* the door of that call */
@@ -311,6 +314,12 @@ bool is_refused_beside(const struct slot *slot, const struct object *door, const
 void ask_parameter_beside(struct asked *asked, const struct member *member, const struct object *door);
 void follow_parameter(const struct wire_request *request, struct object *door);
 void tell_parameter(struct wire_reply *reply, const struct wire_request *request, const struct object *door);
+
+/* doord_cancel.c: servers whose clients have left */
+void client_left(uint32_t call);
+void ask_left(void);
+void tell_left(void);
+void forget_left(struct member *server);
 
 /* doord_paths.c */
 bool is_valid(const struct object *door);

@@ -58,6 +58,7 @@ void forget_call(struct member *member)
 	if (member->calls == 0)
 		return;
 	left_pool(member);
+	client_left(member->calls);
 	member->calls = 0;
 	doord.calling--;
 	drop(member->called);
@@ -302,6 +303,7 @@ static void send_results(struct member *server, const struct slot *slot, const u
 	}
 	server->serves = 0;
 	server->in_service = false;
+	forget_left(server);
 }
 
 void ask_return(struct slot *slot, int number)
@@ -429,6 +431,7 @@ static void accepted(int number)
 	member->in_service = true;
 	member->serves = is_call ? (uint32_t)answer.number[0] : 0;
 	if (reply) {
+		member->invocation = reply->number;
 		reply->b = door;
 		reply->flags = is_pool_empty(member) ? WIRE_POOL : 0;
 	}
@@ -515,6 +518,7 @@ void settle(void)
 				go_on(number);
 		}
 	} while (!doord.is_full && let_one_go());
+	ask_left();
 }
 
 /* A signal's handler is to run in a thread that waits in a call: init interrupts it. */

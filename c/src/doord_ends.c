@@ -33,6 +33,7 @@ static void kill_place(int number)
 		drop(member->bound);
 		member->bound = NULL;
 		member->waits_to_serve = member->in_service = member->awaits = false;
+		forget_left(member);
 		member->life = MEMBER_SPENT;
 	}
 	for (unsigned fd = 0; fd < DOORD_ROWS; fd++)

@@ -65,6 +65,7 @@ static void wake(_Atomic uint32_t *turn)
 void hand_over(void)
 {
 	write_history();
+	tell_left();
 	for (size_t i = 0; i < doord.replied_count; i++) {
 		struct slot *slot = doord.replied[i];
 		slot->is_replied = false;
@@ -315,6 +316,7 @@ static void leave(struct slot *slot)
 		store_member(number);
 		member->life = MEMBER_SPENT;
 		member->in_service = false;
+		forget_left(member);
 		drop(member->bound);
 		member->bound = NULL;
 		return;

@@ -52,6 +52,7 @@ unsigned real_alarm(unsigned seconds);
 useconds_t real_ualarm(useconds_t first, useconds_t next);
 int real_setitimer(int which, const struct itimerval *value, struct itimerval *old);
 int real_sigaction(int number, const struct sigaction *action, struct sigaction *old);
+int real_setcancelstate(int state, int *old);
 
 enum real_signal { REAL_SIGNAL, REAL_BSD_SIGNAL, REAL_SSIGNAL, REAL_SYSV_SIGNAL, REAL_OTHER_SYSV_SIGNAL, REAL_SIGSET, REAL_SIGNALS };
 
@@ -146,6 +147,8 @@ struct thread {
 	uint64_t mask;
 	void *argument;            /* of the invocation, where it was long and has a mapping of its own; else NULL */
 	size_t argument_size;
+	bool is_serving;           /* it runs a procedure */
+	bool is_cancel_disabled;
 };
 
 extern __thread struct thread thread __attribute__((tls_model("initial-exec")));
@@ -167,6 +170,7 @@ bool is_in_handler(void);
 bool is_program_there(void);
 bool is_on_stack_of_handlers(uintptr_t address);
 bool is_in_program(void);
+bool is_any_slot_taken(void);
 
 /* libdoor_ask.c: a request and its answer */
 struct ask {
@@ -271,6 +275,17 @@ void forget_servers(void);
 bool has_own_servers(void);
 void make_server_for(door_info_t *info);
 void hand_wait_on(uint32_t index);
+
+int make_own_thread(void *(*body)(void *), void *argument);
+
+/* libdoor_cancel.c: servers whose clients leave */
+enum at_service { SERVICE_NONE, SERVICE_GOES_ON, SERVICE_TOLD };
+
+void begin_service(uint32_t number);
+enum at_service end_service(void);
+void resume_service(enum at_service at);
+void let_watcher_end(void);
+void forget_service(void);
 
 /* libdoor_doors.c: the doors of this process, by their numbers */
 struct own_door {

@@ -250,12 +250,12 @@ int open_connection(void)
 {
 	int state, error;
 
-	(void)pthread_setcancelstate(PTHREAD_CANCEL_DISABLE, &state);
+	(void)real_setcancelstate(PTHREAD_CANCEL_DISABLE, &state);
 	uint64_t mask = take_lock();
 	int result = atomic_load(&connection.is_open) ? 0 : connect_broker(0);
 	error = errno;
 	give_lock(mask);
-	(void)pthread_setcancelstate(state, NULL);
+	(void)real_setcancelstate(state, NULL);
 	errno = error;
 	return result;
 }

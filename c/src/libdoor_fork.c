@@ -64,6 +64,7 @@ static void after_fork_in_child(void)
 		forget_files();
 		forget_doors();
 		forget_servers();
+		forget_service();
 		bool has_doors = forking.token != 0 && connect_broker(forking.token) == 0;
 		renew_stand_ins(has_doors);
 		/* to doord the first slot is the one of the thread that has forked */

@@ -27,6 +27,7 @@ enum real {
 	REAL_UALARM,
 	REAL_SETITIMER,
 	REAL_SIGACTION,
+	REAL_SETCANCELSTATE,
 	REALS,
 };
 
@@ -58,6 +59,7 @@ static const char *const name_of[REALS] = {
 	[REAL_UALARM] = "ualarm",
 	[REAL_SETITIMER] = "setitimer",
 	[REAL_SIGACTION] = "sigaction",
+	[REAL_SETCANCELSTATE] = "pthread_setcancelstate",
 };
 
 static void *_Atomic found[REALS];
@@ -240,4 +242,12 @@ sighandler_t real_signal(enum real_signal which, int number, sighandler_t handle
 	sighandler_t (*function)(int, sighandler_t);
 
 	return find(which, &function) ? function(number, handler) : SIG_ERR;
+}
+
+/* Answers an error, as all of pthreads(7) do. */
+int real_setcancelstate(int state, int *old)
+{
+	int (*function)(int, int *);
+
+	return find(REAL_SETCANCELSTATE, &function) ? function(state, old) : ENOSYS;
 }

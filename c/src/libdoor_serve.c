@@ -107,7 +107,7 @@ static char *place_bytes(struct service *service, size_t *size)
 static void invoke(struct service *service)
 {
 	const struct wire_reply *reply = service->ask.reply;
-	uint32_t kind = reply->kind, number = reply->b, flags = reply->flags;
+	uint32_t kind = reply->kind, number = reply->b, flags = reply->flags, request = service->ask.number;
 	size_t size = reply->data_size;
 
 	memcpy(service->data, reply->data, size);
@@ -126,6 +126,7 @@ static void invoke(struct service *service)
 	}
 	unsigned count = place_arguments(service);
 	let_signals_in();
+	begin_service(request);
 	if (kind == KERNEL_ANSWER_NOTICE)
 		door->procedure(door->cookie, DOOR_UNREF_DATA, 0, NULL, 0);
 	else
@@ -165,21 +166,34 @@ static bool has_place(void)
 	return thread.service && (is_elsewhere || here < (uintptr_t)thread.service);
 }
 
+/* The procedure's invocation is over. A thread that was cancelled, since its client has left, ends here at the latest. */
+static enum at_service leave_service(void)
+{
+	enum at_service at = end_service();
+
+	if (at == SERVICE_TOLD)
+		pthread_testcancel();
+	return at;
+}
+
 /* door_return(3C) comes back only where it failed. */
 EXPORT int door_return(char *data, size_t size, door_desc_t *desc, uint_t count)
 {
 	const struct results results = { data, size, desc, count };
+	struct service service;
 
 	if (!is_in_program()) {
 		/* a handler of signals, in a thread that waits already */
 		errno = EINVAL;
 		return -1;
 	}
-	if (!has_place()) {
-		struct service service;
-		return serve_here(&service, &results);
-	}
-	if (hand_over(thread.service, &results) < 0)
-		return -1;
-	_longjmp(thread.place, 1);
+	enum at_service at = leave_service();
+	if (!has_place())
+		(void)serve_here(&service, &results);
+	else if (hand_over(thread.service, &results) == 0)
+		_longjmp(thread.place, 1);
+	int error = errno;
+	resume_service(at);
+	errno = error;
+	return -1;
 }

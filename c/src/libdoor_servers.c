@@ -28,7 +28,7 @@ static void *serve(void *mask)
 }
 
 /* A detached thread that begins with all signals kept off. 0, or an error. */
-static int make_thread(void *(*body)(void *), void *argument)
+int make_own_thread(void *(*body)(void *), void *argument)
 {
 	pthread_attr_t attributes;
 	pthread_t made;
@@ -57,7 +57,7 @@ static uint64_t program_mask(void)
 /* What makes server threads by default, as door_server_create(3C) says: none for a private door. */
 static void make_server(door_info_t *info)
 {
-	if (!info && make_thread(serve, (void *)(uintptr_t)program_mask()) != 0)
+	if (!info && make_own_thread(serve, (void *)(uintptr_t)program_mask()) != 0)
 		owe_servers(1);
 }
 
@@ -145,6 +145,6 @@ void hand_wait_on(uint32_t index)
 		return;
 	heir->index = index;
 	heir->mask = program_mask();
-	if (make_thread(inherit, heir) != 0)
+	if (make_own_thread(inherit, heir) != 0)
 		free(heir);
 }

@@ -38,6 +38,14 @@ void give_slot_back(uint32_t index)
 	atomic_fetch_and(&own.taken[index / 64], ~(1ull << index % 64));
 }
 
+bool is_any_slot_taken(void)
+{
+	for (unsigned word = 0; word < WIRE_SLOT_WORDS; word++)
+		if (atomic_load(&own.taken[word]) != 0)
+			return true;
+	return false;
+}
+
 /* A slot for one request of a handler, whose thread is at a request of its own. */
 struct wire_slot *borrow_slot(uint32_t *index)
 {
@@ -148,6 +156,7 @@ static void leave(void *unused)
 		leave_wait();
 		return;
 	}
+	(void)end_service();
 	leave_request();
 	if (begin_ask(&ask, WIRE_LEAVE) == 0)
 		(void)ask_simply(&ask);
@@ -155,6 +164,7 @@ static void leave(void *unused)
 	thread.slot = NULL;
 	give_slot_back(index);
 	program_leaves();
+	let_watcher_end();
 }
 
 int make_thread_key(void)

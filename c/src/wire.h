@@ -129,6 +129,7 @@ struct wire_slot {
 	_Alignas(4096) _Atomic uint32_t turn;
 	_Atomic uint32_t interrupted; /* the number of the request whose wait is to end, by a signal */
 	_Atomic uint32_t looked;      /* that of the request in whose wait the thread has looked whether an alarm is set; doord puts 0 there */
+	_Atomic uint32_t left;        /* that of the request by which an invocation came, whose client has left: the server is told so */
 	_Alignas(64) struct wire_request request;
 	_Alignas(64) struct wire_reply reply;
 };
@@ -136,6 +137,7 @@ struct wire_slot {
 struct wire_area {
 	_Alignas(4096) _Atomic uint64_t asked[WIRE_SLOT_WORDS];
 	_Atomic uint32_t has_alarm; /* an alarm of the program was set when it set one last, or when a thread of it that waits looked */
+	_Atomic uint32_t leavers; /* counts the changes of `left`: a thread of the program may sleep on it */
 	struct wire_slot slot[WIRE_SLOTS];
 };
 
