@@ -1,6 +1,7 @@
 /*
- * doord_cancel.c: servers whose clients have left. The kernel sets a flag of the invocation, unless the door has no-cancel, and the server's
- * own thread asks for it; where it is set the program is told, whose library then cancels that thread.
+ * doord_cancel.c: servers whose clients have left. The kernel sets a flag of the invocation, unless the door has
+ * no-cancel, and the server's own thread asks for it; where it is set the program is told, whose library then cancels
+ * that thread.
  */
 #include "doord.h"
 

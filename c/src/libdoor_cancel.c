@@ -1,8 +1,9 @@
 /*
- * libdoor_cancel.c: a thread that runs a procedure is cancelled when its client leaves the call, as by pthread_cancel(3). doord writes into
- * the thread's slot that the client has left. One that has cancellation enabled is then cancelled by the watcher, a thread of the library,
- * since it may wait anywhere; one that has it disabled cancels itself when it enables it, in the same invocation. The watcher is made for
- * the first thread that runs a procedure with cancellation enabled, so most programs have none.
+ * libdoor_cancel.c: a thread that runs a procedure is cancelled when its client leaves the call, as by
+ * pthread_cancel(3). doord writes into the thread's slot that the client has left. One that has cancellation enabled is
+ * then cancelled by the watcher, a thread of the library, since it may wait anywhere; one that has it disabled cancels
+ * itself when it enables it, in the same invocation. The watcher is made for the first thread that runs a procedure with
+ * cancellation enabled, so most programs have none.
  */
 #include "libdoor.h"
 
@@ -13,7 +14,7 @@
 #include <sys/syscall.h>
 #include <unistd.h>
 
-/* nobody: the slot's thread runs no procedure; telling: it is being cancelled by the watcher, and does not end before that is done */
+/* nobody: the slot's thread runs no procedure; telling: the watcher is cancelling it, and it waits for the end of that */
 enum { NOBODY, SERVES, TELLING, TOLD };
 
 /* The thread of a slot that runs a procedure. */

@@ -1,7 +1,8 @@
 /*
- * cancels PATH OTHER: a server whose threads have cancellation enabled. Where a client leaves, the thread is cancelled: its cleanup handlers
- * and destructors run, and the destructor calls a door. OTHER has DOOR_NO_CANCEL: nobody is cancelled. A request says how the procedure
- * waits; the file of its name is made when it does, and the file gone_NAME when its thread has been cancelled.
+ * cancels PATH OTHER: a server whose threads have cancellation enabled. Where a client leaves, the thread is cancelled:
+ * its cleanup handlers and destructors run, and the destructor calls a door. OTHER has DOOR_NO_CANCEL: nobody is
+ * cancelled. A request says how the procedure waits; the file of its name is made when it does, and the file gone_NAME
+ * when its thread has been cancelled.
  *   pause      in pause(2)
  *   condition  in pthread_cond_wait(3), whose mutex a cleanup handler gives back
  *   spin       in no point of cancellation, but cancelled at once

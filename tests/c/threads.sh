@@ -5,6 +5,8 @@ case_main_ends_by_pthread_exit() {
     run 'mainless server m & s=$!; doorwait m; ask m x; ask m y; kill $s; wait $s 2>/dev/null; echo "server: $?"
         up serve w; doorwait w; mainless client w & c=$!; held main_ends; touch go; wait $c; echo "client: $?"' -b 'mainless=2,2,0' -b 'mainless=4,0,0'
     gives 'x: x' 'y: y' 'server: 143' answered answered answered 'the process ends' 'client: 0'
+    # some shells tell of it
+    may_say '^Terminated'
 }
 
 # without main a process is there all the same, and is ended with what COMMAND left
