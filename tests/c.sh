@@ -3,10 +3,10 @@
 # run is to be legal, as doorlab judges it, and complete. Each case is run again with the doord that `make -C c sanitized` builds, where that
 # is there. The programs stand in c/examples and c/tests.
 #
-# usage: tests/c.sh [--repeat N] [--long-cases] [--plain] [--list] [CASE ..]
+# usage: tests/c.sh [--repeat N] [--plain] [--list] [CASE ..]
 #
-# A case is a function case_NAME in a file of tests/c, each of which has a subject, and long_NAME one that takes long, which is run only
-# where it is named or with --long-cases. --plain leaves out the sanitized doord.
+# A case is a function case_NAME in a file of tests/c, each of which has a subject. What takes long lies in tests/c_long, and is run by
+# tests/c_long.sh, which takes the same words. --plain leaves out the sanitized doord.
 # DOORLAB names another doorlab than crates/doorlab/out/doorlab; KEEP a folder into which goes what a failed case left.
 # The last line is `N passed, N failed`; a case counts once for each doord and each time.
 
@@ -20,26 +20,29 @@ case $DOORLAB in
 /*) ;;
 *) DOORLAB=$PWD/$DOORLAB ;;
 esac
+case ${0##*/} in
+c_long.sh) folder=tests/c_long longest=1800 ;;
+*) folder=tests/c longest=60 ;;
+esac
 passed=0
 failed=0
 times=1
-long=
 plain=
 picked=
+list() { sed -n 's/^case_\([a-z0-9_]*\)() {$/\1/p' $folder/*.sh; }
 while [ $# -gt 0 ]; do
     case $1 in
     --repeat)
         times=$2
         shift
         ;;
-    --long-cases) long=yes ;;
     --plain) plain=yes ;;
     --list)
-        sed -n 's/^\(case\|long\)_\([a-z0-9_]*\)() {$/\2/p' tests/c/*.sh
+        list
         exit 0
         ;;
     -*)
-        echo "usage: tests/c.sh [--repeat N] [--long-cases] [--plain] [--list] [CASE ..]" >&2
+        echo "usage: $0 [--repeat N] [--plain] [--list] [CASE ..]" >&2
         exit 2
         ;;
     *) picked="$picked $1" ;;
@@ -69,7 +72,7 @@ blocks=
 
 # What ends a run that does not end, with status 124, where the system has it.
 most=
-if command -v timeout >/dev/null; then most="timeout -k 10 60"; fi
+if command -v timeout >/dev/null; then most="timeout -k 10 $longest"; fi
 
 # building
 
@@ -276,7 +279,7 @@ alone() {
     said=
 }
 
-for file in tests/c/*.sh; do
+for file in tests/c/*.sh $([ $folder = tests/c ] || ls $folder/*.sh); do
     . "$top/$file"
 done
 
@@ -285,10 +288,10 @@ done
 [ -x "$DOORLAB" ] || give_up "$DOORLAB: not there; .ci/run builds it" /dev/null
 build
 : >"$work/empty.cc"
-[ -n "$picked" ] || picked=$(sed -n 's/^case_\([a-z0-9_]*\)() {$/\1/p' tests/c/*.sh)${long:+ $(sed -n 's/^long_\([a-z0-9_]*\)() {$/\1/p' tests/c/*.sh)}
+[ -n "$picked" ] || picked=$(list)
 
 # those that no doord runs, or that measure
-once="headers case_scribbles"
+once="headers scribbles"
 
 keep() {
     [ -n "${KEEP-}" ] || return 0
@@ -308,7 +311,6 @@ for doord in "$out/doord" "$out/sanitized/doord"; do
         *" $name "*) [ "$doord" = "$out/doord" ] || continue ;;
         esac
         body=case_$name
-        command -v "$body" >/dev/null || body=long_$name
         if ! command -v "$body" >/dev/null; then
             echo "$name: there is no such case"
             failed=$((failed + 1))

@@ -99,12 +99,6 @@ case_many_procedures() {
     says 'doord: many: at most 64 procedures have names in the history: further ones go by the name of the last'
 }
 
-long_many_paths() {
-    run 'many paths'
-    gives 'done'
-    says 'doord: many: EMFILE: doors are attached to at most 4,096 files in the life of a kernel'
-}
-
 # a program may have few files open, and doord as well
 case_few_files() {
     run 'up serve w; doorwait w; (ulimit -n 12; ask w "echo x"; threads 5)'

@@ -54,8 +54,3 @@ case_servers_are_not_cancelled() {
     gives 'keep: goes on' 'off: goes on' 'enabled: enabled' 'enabled: enabled' 'enabled: enabled' 'enabled: enabled'
     may_say '^Killed'
 }
-
-long_crowds_of_thousands() {
-    run 'up serve w; doorwait w; crowds joined 8000; crowds detached 8000; crowds c11 4000' -b 'serve=1,8,0' -b 'crowds=9,0,0'
-    gives 'joined: 8000' 'detached: 8000' 'c11: 8000'
-}

@@ -1,8 +1,7 @@
-# What takes long, and is run only where it is named or with --long-cases.
-# Read by tests/c.sh, which has the words that the cases use.
+# Limits that are met only after long.
+# Read by tests/c_long.sh, which has the words that the cases use.
 
-long_event_limit() {
-    most=${most:+timeout -k 10 300}
+case_event_limit() {
     start 'up serve w; doorwait w; ask -n 260000 w "echo x"; echo "ask: $?"'
     wait "$running"
     status=$?
@@ -10,5 +9,10 @@ long_event_limit() {
     says_like 'doord: .*1,000,000|libdoor: doord is gone' 4
     "$DOORLAB" history "$work/history" >"$work/verdict" 2>&1
     [ "$(cat "$work/verdict")" = "legal 1000000" ] || wrong "the history" "legal 1000000" "$(cat "$work/verdict")"
-    most=${most:+timeout -k 10 60}
+}
+
+case_many_paths() {
+    run 'many paths'
+    gives 'done'
+    says 'doord: many: EMFILE: doors are attached to at most 4,096 files in the life of a kernel'
 }
