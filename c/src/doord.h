@@ -106,6 +106,7 @@ struct place {
 struct parcel {
 	uint32_t number;
 	unsigned count;
+	bool is_short; /* doord had no room for all of them */
 	int file[WIRE_ITEMS];
 };
 
@@ -135,6 +136,7 @@ struct stand_in {
 	int end;          /* the reading end of a pipe whose writing end the program has, or -1 */
 	uint32_t pipe;    /* its number */
 	bool is_expected; /* the program was told of the descriptor, and is to send it */
+	bool is_missed;   /* it came, and doord had no room for it */
 	struct watch watch;
 };
 
@@ -348,7 +350,7 @@ bool stands_for(const struct client *client, uint32_t row, uint32_t pipe, uint32
 struct client *new_client(pid_t pid);
 void free_gone(void);
 void send_files(struct slot *slot);
-bool take_parcel(struct slot *slot, int *file, unsigned count);
+int take_parcel(struct slot *slot, int *file, unsigned count);
 
 /* doord_files.c: files of programs */
 void close_file(int file);

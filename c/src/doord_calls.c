@@ -155,10 +155,11 @@ static bool make_items(struct slot *slot, int member, uint64_t *item, struct obj
 	const struct wire_request *asked = &slot->request;
 	int file[WIRE_ITEMS];
 	unsigned taken = (asked->flags & WIRE_BESIDE) != 0;
+	int missing = take_parcel(slot, file, asked->files);
 
 	*beside = NULL;
-	if (!take_parcel(slot, file, asked->files)) {
-		reply_error(slot, EBADF);
+	if (missing != 0) {
+		reply_error(slot, missing);
 		return false;
 	}
 	int wrong = taken > 0 ? put_beside(slot, file[0], beside) : 0;

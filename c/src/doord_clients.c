@@ -62,8 +62,11 @@ static bool send_message(int socket, const struct wire_message *message, const i
 	return sendmsg(socket, &packet, MSG_NOSIGNAL | MSG_DONTWAIT) == (ssize_t)sizeof *message;
 }
 
-/* A message and its descriptors. -1: there is none now; 0: the other end is gone, or does not speak so. */
-static int receive_message(int socket, struct wire_message *message, int *file, unsigned *files)
+/*
+ * A message and its descriptors. -1: there is none now; 0: the other end is gone, or does not speak so. Where `is_short` doord had no room
+ * for all of its descriptors, so that there are fewer.
+ */
+static int receive_message(int socket, struct wire_message *message, int *file, unsigned *files, bool *is_short)
 {
 	struct iovec bytes = { message, sizeof *message };
 	union {
@@ -81,7 +84,10 @@ static int receive_message(int socket, struct wire_message *message, int *file, 
 			*files = (unsigned)((header->cmsg_len - CMSG_LEN(0)) / sizeof(int));
 			memcpy(file, CMSG_DATA(header), *files * sizeof(int));
 		}
-	return n == (ssize_t)sizeof *message;
+	*is_short = (packet.msg_flags & MSG_CTRUNC) && *files < WIRE_ITEMS;
+	/* longer than a message, or with more descriptors than one may have */
+	bool is_odd = (packet.msg_flags & MSG_TRUNC) || ((packet.msg_flags & MSG_CTRUNC) && !*is_short);
+	return n == (ssize_t)sizeof *message && !is_odd;
 }
 
 /*
@@ -115,7 +121,7 @@ static void drop_parcel(struct client *client, unsigned slot)
 }
 
 /* One for each slot: those of a request that never came give way. */
-static void keep_parcel(struct client *client, const struct wire_message *message, const int *file, unsigned files)
+static void keep_parcel(struct client *client, const struct wire_message *message, const int *file, unsigned files, bool is_short)
 {
 	if (message->a >= WIRE_SLOTS) {
 		close_files(file, files);
@@ -136,23 +142,25 @@ static void keep_parcel(struct client *client, const struct wire_message *messag
 		fail("there is no memory");
 	(*at)->number = message->b;
 	(*at)->count = files;
+	(*at)->is_short = is_short;
 	memcpy((*at)->file, file, files * sizeof *file);
 }
 
-/* The files of the slot's request: whether as many came as it has. */
-bool take_parcel(struct slot *slot, int *file, unsigned count)
+/* The files of the slot's request: 0 where as many came as it has, else an error. */
+int take_parcel(struct slot *slot, int *file, unsigned count)
 {
 	struct parcel **at = &slot->client->parcel[slot->index];
 
 	if (!*at)
-		return count == 0;
-	bool fits = (*at)->number == slot->request.number && (*at)->count == count;
+		return count == 0 ? 0 : EBADF;
+	bool is_its = (*at)->number == slot->request.number, fits = is_its && (*at)->count == count;
+	int error = fits || count == 0 ? 0 : is_its && (*at)->is_short ? ENFILE : EBADF;
 	if (fits)
 		memcpy(file, (*at)->file, count * sizeof *file);
 	else
 		close_files((*at)->file, (*at)->count);
 	drop_parcel(slot->client, slot->index);
-	return fits || count == 0;
+	return error;
 }
 
 /* stand-ins */
@@ -173,7 +181,7 @@ void close_stand_in(struct client *client, unsigned row)
 	struct stand_in *stand_in = &client->stand_in[row];
 	if (stand_in->is_expected)
 		client->expected--;
-	stand_in->is_expected = false;
+	stand_in->is_expected = stand_in->is_missed = false;
 	if (stand_in->end < 0)
 		return;
 	unwatch(stand_in->end);
@@ -213,12 +221,24 @@ static void take_stand_in(struct client *client, uint32_t row, int end)
 	close_file(end);
 }
 
+/* doord has no descriptor for it: the program's is believed, and where it is closed without a word nobody sees it. */
+static void miss_stand_in(struct client *client, uint32_t row)
+{
+	if (row >= DOORD_ROWS || !doord.place[client->place].row[row])
+		return;
+	close_stand_in(client, row);
+	client->stand_in[row].is_missed = true;
+	if (!client->is_odd_told)
+		complain("%s: doord has no descriptor left for what stands in for descriptor %u", doord.place[client->place].name, (unsigned)row);
+	client->is_odd_told = true;
+}
+
 /* Whether this pipe stands for the descriptor, as far as the bits of its number say that are there. */
 bool stands_for(const struct client *client, uint32_t row, uint32_t pipe, uint32_t bits)
 {
 	const struct stand_in *stand_in = row < DOORD_ROWS ? &client->stand_in[row] : NULL;
 
-	return pipe == 0 || (stand_in && stand_in->end >= 0 && (stand_in->pipe & bits) == pipe);
+	return pipe == 0 || (stand_in && (stand_in->is_missed || (stand_in->end >= 0 && (stand_in->pipe & bits) == pipe)));
 }
 
 /* The program's end was closed without a word, as by exec(2): the keeper closes the descriptor. */
@@ -369,7 +389,7 @@ static bool is_in_place(const struct client *client, uint32_t kind)
 	return kind == WIRE_HELLO || (client->place != 0 && (kind == WIRE_STAND_IN || kind == WIRE_FILES || kind == WIRE_FORKED));
 }
 
-static void take_message(struct client *client, const struct wire_message *message, const int *file, unsigned files)
+static void take_message(struct client *client, const struct wire_message *message, const int *file, unsigned files, bool is_short)
 {
 	if (!is_in_place(client, message->kind)) {
 		close_files(file, files);
@@ -384,11 +404,13 @@ static void take_message(struct client *client, const struct wire_message *messa
 	case WIRE_STAND_IN:
 		if (files == 1)
 			take_stand_in(client, message->a, file[0]);
+		else if (is_short)
+			miss_stand_in(client, message->a);
 		else
 			close_files(file, files);
 		break;
 	case WIRE_FILES:
-		keep_parcel(client, message, file, files);
+		keep_parcel(client, message, file, files, is_short);
 		break;
 	case WIRE_FORKED:
 		close_files(file, files);
@@ -402,9 +424,10 @@ static void take_so_many(struct client *client, unsigned most)
 	struct wire_message message;
 	int file[WIRE_ITEMS];
 	unsigned files;
+	bool is_short;
 
 	for (unsigned count = 0; count < most && !client->is_gone; count++) {
-		int got = receive_message(client->control, &message, file, &files);
+		int got = receive_message(client->control, &message, file, &files, &is_short);
 		if (got < 0)
 			return;
 		if (got == 0) {
@@ -412,7 +435,7 @@ static void take_so_many(struct client *client, unsigned most)
 			end_client(client);
 			return;
 		}
-		take_message(client, &message, file, files);
+		take_message(client, &message, file, files, is_short);
 	}
 }
 

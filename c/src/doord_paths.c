@@ -182,8 +182,9 @@ void ask_attach(struct slot *slot, int number)
 	int file;
 
 	see_descriptor(slot);
-	if (slot->request.files != 1 || !take_parcel(slot, &file, 1)) {
-		reply_error(slot, EINVAL);
+	int missing = slot->request.files == 1 ? take_parcel(slot, &file, 1) : EINVAL;
+	if (missing != 0) {
+		reply_error(slot, missing == ENFILE ? ENFILE : EINVAL);
 		return;
 	}
 	if (fstat(file, &found) < 0 || !may_attach(slot->client, &found)) {
