@@ -291,7 +291,7 @@ build
 [ -n "$picked" ] || picked=$(list)
 
 # those that no doord runs, or that measure
-once="headers scribbles"
+once="headers scribbles fuzz"
 
 keep() {
     [ -n "${KEEP-}" ] || return 0

@@ -151,16 +151,25 @@ static bool is_over(void)
 	return doord.is_full || doord.is_stalled || (doord.command_ended && doord.no_children && !doord.clients);
 }
 
+/* How long the loop may sleep, in milliseconds; -1 for good. */
+static int time_to_sleep(void)
+{
+	int look = time_to_look(), orphans = time_for_orphans();
+
+	return look < 0 || (orphans >= 0 && orphans < look) ? orphans : look;
+}
+
 static void serve(void)
 {
 	struct epoll_event event[EVENTS_AT_ONCE];
 
 	take_signals();
 	while (!is_over()) {
-		int count = epoll_wait(doord.epoll, event, EVENTS_AT_ONCE, time_to_look());
+		int count = epoll_wait(doord.epoll, event, EVENTS_AT_ONCE, time_to_sleep());
 		if (count < 0 && errno != EINTR)
 			fail("epoll_wait: %s", strerror(errno));
 		take_events(event, count > 0 ? count : 0);
+		end_orphans();
 		hand_over();
 		free_gone();
 		if (count > 0)

@@ -89,6 +89,7 @@ struct place {
 	char name[DOORD_NAME];   /* empty until the first program has it */
 	int parent;              /* whose fork begins it; 0 of those that init begins */
 	uint32_t token;          /* of a child that has begun and has not come: nobody else has it; else 0 */
+	uint64_t orphaned;       /* when the parent of such a child ended without a word of it; else 0 */
 	bool is_born, is_spent;
 	struct client *client;   /* who has it */
 	int first, keeper, last; /* its members */
@@ -153,6 +154,7 @@ struct client {
 	unsigned expected; /* stand-ins that it is still to send */
 	unsigned files_kept, most_files; /* of its parcels */
 	bool is_odd_told; /* that a stand-in of it is none was said */
+	bool is_lost_told; /* that files could not be handed over was said */
 	struct wire_area *area;
 	struct watch on_control, on_bell, on_death;
 	/* of one that has a place */
@@ -337,9 +339,14 @@ void ask_fork(struct slot *slot, int member);
 void fork_failed(struct slot *slot);
 void forked(const struct client *parent, uint32_t token, pid_t pid);
 int place_of_token(uint32_t token);
+void orphan_children(int parent);
+int time_for_orphans(void);
+void end_orphans(void);
+
+/* doord_connections.c */
+void take_connection(void);
 
 /* doord_clients.c: programs that come and go */
-void take_connection(void);
 void take_messages(struct client *client);
 void take_some_messages(struct client *client);
 void end_client(struct client *client);
@@ -347,7 +354,7 @@ void close_stand_in(struct client *client, unsigned row);
 void expect_stand_in(struct client *client, uint64_t row);
 void stand_in_gone(struct client *client, unsigned row);
 bool stands_for(const struct client *client, uint32_t row, uint32_t pipe, uint32_t bits);
-struct client *new_client(pid_t pid);
+struct client *new_client(pid_t pid, int death);
 void free_gone(void);
 void send_files(struct slot *slot);
 int take_parcel(struct slot *slot, int *file, unsigned count);

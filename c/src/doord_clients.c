@@ -14,11 +14,9 @@
 #include <sys/syscall.h>
 #include <unistd.h>
 
-/* A client by its pid, whose end is seen by a pidfd; NULL where the process is not there. */
-struct client *new_client(pid_t pid)
+/* A client by its pid, whose end is seen by a pidfd, which is the client's from here; NULL where the process is not there. */
+struct client *new_client(pid_t pid, int death)
 {
-	int death = (int)syscall(SYS_pidfd_open, pid, 0);
-
 	if (death < 0)
 		return NULL;
 	struct client *client = calloc(1, sizeof *client);
@@ -101,8 +99,9 @@ void send_files(struct slot *slot)
 	int error = send_message(client->control, &message, slot->file, slot->files) ? 0 : errno;
 
 	/* a program that has died meanwhile wants none */
-	if (error != 0 && error != EPIPE && error != ECONNRESET)
+	if (error != 0 && error != EPIPE && error != ECONNRESET && !client->is_lost_told)
 		complain("%s: descriptors of files could not be handed over: %s", doord.place[client->place].name, strerror(error));
+	client->is_lost_told = client->is_lost_told || error != 0;
 	close_files(slot->file, slot->files);
 	slot->files = 0;
 	if (error == EAGAIN)
@@ -288,16 +287,6 @@ static bool make_area(struct client *client, int *area)
 	return client->bell >= 0 && watch(client->bell, &client->on_bell, EPOLLIN | EPOLLET);
 }
 
-/* What the system says of the other end. */
-static bool ask_peer(struct client *client, struct ucred *peer)
-{
-	socklen_t size = sizeof *peer;
-
-	if (getsockopt(client->control, SOL_SOCKET, SO_PEERCRED, peer, &size) < 0)
-		return false;
-	return peer->uid == geteuid() || geteuid() == 0;
-}
-
 /* The place of a program: the child that its fork began, or one that nobody has. */
 static int place_for(struct client *client, uint32_t token, const char *program)
 {
@@ -451,76 +440,7 @@ void take_some_messages(struct client *client)
 	take_so_many(client, DOORD_MESSAGES_AT_ONCE);
 }
 
-/* coming and going */
-
-/* Where doord has no descriptor left, whoever comes is sent away, and not left to knock. */
-static void send_away(void)
-{
-	if (doord.reserve >= 0)
-		close(doord.reserve);
-	int control = accept4(doord.listener, NULL, NULL, SOCK_CLOEXEC);
-	if (control >= 0)
-		close(control);
-	doord.reserve = open("/dev/null", O_RDWR | O_CLOEXEC);
-}
-
-/* How many connections of this process wait for its hello. */
-static unsigned strangers_of(pid_t pid)
-{
-	unsigned count = 0;
-
-	for (const struct client *client = doord.clients; client; client = client->next)
-		count += client->pid == pid && client->place == 0;
-	return count;
-}
-
-/* Where there are too many that say nothing, the first that came of the process that has most of them makes room. */
-static void make_room_for_strangers(void)
-{
-	struct client *first = NULL;
-	unsigned most = 0;
-
-	if (doord.strangers < DOORD_STRANGERS)
-		return;
-	/* those that came last stand first */
-	for (struct client *client = doord.clients; client; client = client->next) {
-		unsigned count = client->place == 0 ? strangers_of(client->pid) : 0;
-		if (count > 0 && count >= most) {
-			first = client;
-			most = count;
-		}
-	}
-	if (first)
-		end_client(first);
-}
-
-void take_connection(void)
-{
-	int control = accept4(doord.listener, NULL, NULL, SOCK_CLOEXEC | SOCK_NONBLOCK);
-	struct client someone = { .control = control };
-	struct ucred peer;
-
-	if (control < 0) {
-		if (errno == EMFILE || errno == ENFILE)
-			send_away();
-		return;
-	}
-	struct client *client = ask_peer(&someone, &peer) ? new_client(peer.pid) : NULL;
-	if (!client) {
-		close(control);
-		return;
-	}
-	const int unread = DOORD_UNREAD / 2; /* the system takes it twice */
-	(void)setsockopt(control, SOL_SOCKET, SO_SNDBUF, &unread, sizeof unread);
-	make_room_for_strangers();
-	doord.strangers++;
-	client->control = control;
-	client->euid = peer.uid;
-	client->egid = peer.gid;
-	client->on_control = (struct watch){ WATCH_CONTROL, client, 0 };
-	if (!watch(control, &client->on_control, EPOLLIN))
-		end_client(client);
-}
+/* going */
 
 static void close_watched(int *fd)
 {

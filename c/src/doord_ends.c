@@ -79,6 +79,8 @@ void end_place(int number)
 	struct place *place = &doord.place[number];
 
 	place->client = NULL;
+	place->token = 0;
+	place->orphaned = 0;
 	for (int t = place->first; t <= place->last; t++) {
 		if (doord.member[t].slot)
 			doord.member[t].slot->member = 0;
@@ -86,5 +88,6 @@ void end_place(int number)
 	}
 	if (is_to_be_killed(place) || !empty_place(number))
 		kill_place(number);
+	orphan_children(number);
 	settle();
 }

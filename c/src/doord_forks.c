@@ -10,7 +10,7 @@
  * A child says whose it is by a token: below, the number of its place, and above what nobody can guess, since whoever comes with a token has
  * the descriptors of another program.
  */
-enum { TOKEN_PLACE = 128 };
+enum { TOKEN_PLACE = 128, GRACE = 2000 };
 
 _Static_assert((int)DOORD_PLACES < (int)TOKEN_PLACE, "a place has room in a token");
 
@@ -99,7 +99,7 @@ void forked(const struct client *parent, uint32_t token, pid_t pid)
 	if (child == 0)
 		return;
 	bool is_child = pid > 0 && (parent_of(pid) == parent->pid || is_below(pid));
-	struct client *client = is_child ? new_client(pid) : NULL;
+	struct client *client = is_child ? new_client(pid, (int)syscall(SYS_pidfd_open, pid, 0)) : NULL;
 	if (!client) {
 		end_place(child);
 		return;
@@ -107,4 +107,40 @@ void forked(const struct client *parent, uint32_t token, pid_t pid)
 	client->place = child;
 	doord.place[child].client = client;
 	remark("pid %d is %s, by fork", (int)pid, doord.place[child].name);
+}
+
+/*
+ * A parent that is killed in fork(2) has not said who its child is, or that there is none. A child that there is comes by itself, and soon:
+ * what was begun for one that does not come is ended, so that nobody waits for its descriptors.
+ */
+static bool is_awaited(const struct place *place)
+{
+	return place->token != 0 && place->is_born && !place->is_spent && !place->client;
+}
+
+void orphan_children(int parent)
+{
+	for (int i = 2; i <= doord.places; i++)
+		if (doord.place[i].parent == parent && is_awaited(&doord.place[i]))
+			doord.place[i].orphaned = now();
+}
+
+/* How long the loop may sleep, in milliseconds; -1 for good. */
+int time_for_orphans(void)
+{
+	for (int i = 2; i <= doord.places; i++)
+		if (doord.place[i].orphaned)
+			return GRACE / 4;
+	return -1;
+}
+
+void end_orphans(void)
+{
+	for (int i = 2; i <= doord.places; i++) {
+		struct place *place = &doord.place[i];
+		if (place->orphaned && !is_awaited(place))
+			place->orphaned = 0;
+		else if (place->orphaned && now() - place->orphaned >= GRACE)
+			end_place(i);
+	}
 }

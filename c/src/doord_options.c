@@ -2,9 +2,11 @@
 #include "doord.h"
 
 #include <errno.h>
+#include <poll.h>
 #include <stdarg.h>
 #include <stdlib.h>
 #include <string.h>
+#include <unistd.h>
 
 static const char usage[] = "usage: doord [-b PROGRAM=THREADS,SPARES,CHILDREN].. [-l LIMIT] [-o FILE] [-S SOCKET] [--eagain] [--long] [--no-preload] [--patience SECONDS] [--stay] -- COMMAND ..\n";
 
@@ -29,6 +31,18 @@ static const char help[] =
 	"Ends with COMMAND's status; 122 after the last event that a history may have, 124 where programs wait for each other in calls, 125\n"
 	"where doord failed, 126 and 127 where COMMAND could not be run, or was not found.\n";
 
+/* The error stream may be a pipe that the programs below have filled, and that nobody reads: then nothing is said. */
+static bool is_heard(void)
+{
+	enum { PATIENCE = 1000 };
+	static int patience = PATIENCE;
+	struct pollfd stream = { .fd = STDERR_FILENO, .events = POLLOUT };
+	bool is_ready = poll(&stream, 1, patience) != 0;
+
+	patience = is_ready ? PATIENCE : 0;
+	return is_ready;
+}
+
 /* A program's name may have any bytes, and a terminal obeys some. */
 static void say(const char *form, va_list list)
 {
@@ -37,7 +51,8 @@ static void say(const char *form, va_list list)
 	for (unsigned char *at = (unsigned char *)line; *at; at++)
 		if (*at < 0x20 || *at == 0x7f || (*at == 0xc2 && at[1] >= 0x80 && at[1] <= 0x9f))
 			*at = '?';
-	fprintf(stderr, "doord: %s\n", line);
+	if (is_heard())
+		fprintf(stderr, "doord: %s\n", line);
 }
 
 void complain(const char *form, ...)

@@ -7,6 +7,7 @@
 #include <string.h>
 #include <sys/mman.h>
 #include <sys/stat.h>
+#include <sys/sysmacros.h>
 #include <unistd.h>
 
 /*
@@ -168,6 +169,19 @@ static void put_path(unsigned number, int file, const struct stat *found, struct
 	atomic_store(&doord.table->attached, doord.attached);
 }
 
+/* What the system knows of a file. It is not asked of those who have the file, who may be a program below doord and never answer. */
+static bool look_at(int file, struct stat *found)
+{
+	struct statx known;
+
+	if (statx(file, "", AT_EMPTY_PATH | AT_STATX_DONT_SYNC, STATX_UID | STATX_INO, &known) != 0)
+		return false;
+	found->st_dev = makedev(known.stx_dev_major, known.stx_dev_minor);
+	found->st_ino = known.stx_ino;
+	found->st_uid = known.stx_uid;
+	return true;
+}
+
 /* Who owns the file attaches and detaches; root, too. */
 static bool may_attach(const struct client *client, const struct stat *found)
 {
@@ -187,7 +201,7 @@ void ask_attach(struct slot *slot, int number)
 		reply_error(slot, missing == ENFILE ? ENFILE : EINVAL);
 		return;
 	}
-	if (fstat(file, &found) < 0 || !may_attach(slot->client, &found)) {
+	if (!look_at(file, &found) || !may_attach(slot->client, &found)) {
 		close_file(file);
 		reply_error(slot, EPERM);
 		return;
@@ -225,7 +239,7 @@ void ask_detach(struct slot *slot, int number)
 		reply_error(slot, EINVAL);
 		return;
 	}
-	if (fstat(doord.path[path].file, &found) < 0 || !may_attach(slot->client, &found)) {
+	if (!look_at(doord.path[path].file, &found) || !may_attach(slot->client, &found)) {
 		reply_error(slot, EPERM);
 		return;
 	}

@@ -25,6 +25,7 @@ static struct {
 	bool was_killed;
 } own;
 
+/* Milliseconds, never 0. */
 uint64_t now(void)
 {
 	struct timespec time;

@@ -257,6 +257,32 @@ static void longer(void)
 	check(error_of(&raw, 0, 0, 0, raw.control) == EBADF);
 }
 
+/* A fork of which it never says who the child is: it has a descriptor of the door of another, and so has the child. */
+static void fork_and_die(void)
+{
+	struct raw raw;
+	struct stat file;
+
+	welcome(&raw);
+	check(stat("w", &file) == 0);
+	request_of(&raw, 0)->op = KERNEL_OP_OPEN;
+	raw.area->slot[0].request.c = file.st_dev;
+	raw.area->slot[0].request.d = file.st_ino;
+	check(asked(&raw, 0, 5000) && raw.area->slot[0].reply.error == 0);
+	request_of(&raw, 0)->op = KERNEL_OP_FORK;
+	check(asked(&raw, 0, 5000) && raw.area->slot[0].reply.error == 0 && raw.area->slot[0].reply.a != 0);
+	die();
+}
+
+static void forks(void)
+{
+	pid_t child = fork();
+
+	if (child == 0)
+		fork_and_die();
+	check(end_of(child) == -SIGKILL);
+}
+
 /* So many connections that say nothing, as many of them at once as a process may have. */
 static void knocks(void)
 {
@@ -286,6 +312,7 @@ int main(int argc, char **argv)
 		void (*run)(void);
 	} ways[] = {
 		{ "dies", dies }, { "stops", stops }, { "twice", twice }, { "interrupts", interrupts }, { "longer", longer }, { "knocks", knocks },
+		{ "forks", forks },
 	};
 	size_t i;
 

@@ -132,6 +132,12 @@ case_cutoffs_knocks() {
     cutoffs knocks knocked
 }
 
+# the child has the descriptors of its parent, and comes never: somebody closes them
+case_cutoffs_forks() {
+    run 'up serve w; doorwait w; cutoffs forks; seen "^[0-9]* hostile2_k hostile2_k close 0 = ok$"; ask w "echo x"' -b 'hostile=2,1,1' -b '*=2,1,0'
+    gives over 'echo x: x'
+}
+
 # messages by a seed, of which each byte was cut or changed, while good programs make calls
 mutants() {
     run "MOST=${4-8192}; $sums"'up serve w; doorwait w; ask w "echo first"; began; mutants '"$1 $2"' & attacks=$!; ask -n '"$3"' w "echo x"; wait $attacks; as_before 1

@@ -19,3 +19,26 @@ case_attacks_again_and_again() {
         may_say '^doord: '
     done
 }
+
+# a search by libFuzzer, which comes with clang, for what ends doord; what it keeps are inputs by which it came somewhere new, and their
+# histories are legal, too
+case_fuzz() {
+    if ! command -v clang >/dev/null; then
+        echo "no clang: the search is left out"
+        return
+    fi
+    make -C c fuzz >"$work/made" 2>&1 || give_up "make -C c fuzz failed:" "$work/made"
+    fresh
+    mkdir "$work/d/kept"
+    for seed in 1 2 3 4 5 6 7 8; do
+        awk -v seed=$seed 'BEGIN { srand(seed); for (i = 0; i < 1000; i++) printf "%c", 1 + rand() * 255 }' >"$work/d/kept/$seed"
+    done
+    "$out/fuzz_wire" -max_total_time=$((${MINUTES:-1} * 60)) -max_len=3000 -len_control=0 -artifact_prefix="$work/d/" "$work/d/kept" >"$work/err" 2>&1 ||
+        wrong "fuzz_wire" "nothing found" "$(grep -E 'ERROR|SUMMARY|doord fails' "$work/err")"
+    [ "$(ls "$work/d/kept" | wc -l)" -gt 100 ] || wrong "fuzz_wire" "100 inputs that came somewhere new" "$(ls "$work/d/kept" | wc -l)"
+    for input in $(ls "$work/d/kept" | head -n 100); do
+        rm -f "$work/history"
+        FUZZ_HISTORY=$work/history "$out/fuzz_wire" "$work/d/kept/$input" >/dev/null 2>&1
+        legal "$work/history"
+    done
+}
