@@ -69,6 +69,8 @@ bin=$work/bin
 # how many files doord and all below it may have open; how large a file may become, in blocks of 512 bytes
 files=
 blocks=
+# where the error stream goes, where that is not $work/err
+errors=
 
 # What ends a run that does not end, with status 124, where the system has it.
 most=
@@ -160,7 +162,7 @@ start() {
         [ -z "$files" ] || ulimit -n "$files"
         [ -z "$blocks" ] || ulimit -S -f "$blocks"
         exec $most sh -c 'echo $$ >"$0"; exec "$@"' "$work/pid" "$doord" "$@" -o "$work/history" -- sh "$work/script"
-    ) >"$work/out" 2>"$work/err" </dev/null &
+    ) >"$work/out" 2>"${errors:-$work/err}" </dev/null &
     running=$!
     ended=
     said=

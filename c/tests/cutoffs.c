@@ -5,6 +5,8 @@
 #define _GNU_SOURCE 1
 #include "raw.h"
 
+#include <arpa/inet.h>
+#include <netinet/in.h>
 #include <sys/resource.h>
 
 enum { KNOCKS = 10000, INTERRUPTS = 2000, MANY_FILES = 253 };
@@ -176,6 +178,35 @@ static void twice(void)
 	check(told_within(&raw, 0, 5000) && slot->reply.number == number && slot->reply.error == EINTR);
 }
 
+static uint32_t error_of_items(struct raw *raw, uint32_t door, uint64_t first, uint64_t second)
+{
+	struct wire_request *request = request_of(raw, 3);
+
+	request->op = KERNEL_OP_CALL;
+	request->a = door;
+	request->items = 2;
+	request->item[0] = first;
+	request->item[1] = second;
+	check(asked(raw, 3, 5000));
+	return raw->area->slot[3].reply.error;
+}
+
+/* One descriptor twice in a call, where it is released, and such as are none. */
+static void doubles(void)
+{
+	struct raw raw;
+	uint32_t door;
+
+	welcome(&raw);
+	door = quiet_door(&raw);
+	check(error_of_items(&raw, door, door | WIRE_RELEASE, door | WIRE_RELEASE) == EINVAL);
+	check(error_of_items(&raw, door, door, door | WIRE_RELEASE) == EINVAL);
+	check(error_of_items(&raw, door, door, WIRE_NO_FD) == EINVAL);
+	check(error_of_items(&raw, door, door, 17) == EINVAL);
+	check(error_of_items(&raw, door, door | 5ull << WIRE_PIPE, door) == EINVAL);
+	check(error_of_items(&raw, door, ~0ull, ~0ull) == EINVAL);
+}
+
 /* Interrupts without end, of calls that wait, and of what is no call. */
 static void interrupts(void)
 {
@@ -257,6 +288,41 @@ static void longer(void)
 	check(error_of(&raw, 0, 0, 0, raw.control) == EBADF);
 }
 
+/* A socket whose last copy doord closes, with bytes on their way that nobody reads, and which is to wait for them. */
+static int lingering_socket(void)
+{
+	static const struct linger long_enough = { 1, 20 };
+	static const char bytes[65536];
+	struct sockaddr_in address = { .sin_family = AF_INET, .sin_addr.s_addr = htonl(INADDR_LOOPBACK) };
+	socklen_t size = sizeof(address);
+	int listener = socket(AF_INET, SOCK_STREAM, 0), end = socket(AF_INET, SOCK_STREAM | SOCK_NONBLOCK, 0);
+
+	check(bind(listener, (struct sockaddr *)&address, size) == 0 && listen(listener, 1) == 0);
+	check(getsockname(listener, (struct sockaddr *)&address, &size) == 0);
+	check(connect(end, (struct sockaddr *)&address, size) == 0 || errno == EINPROGRESS);
+	check(accept(listener, NULL, NULL) != -1);
+	while (send(end, bytes, sizeof(bytes), MSG_NOSIGNAL) > 0)
+		continue;
+	check(fcntl(end, F_SETFL, 0) == 0 && setsockopt(end, SOL_SOCKET, SO_LINGER, &long_enough, sizeof(long_enough)) == 0);
+	return end;
+}
+
+static void lingers(void)
+{
+	struct raw raw;
+	struct wire_message message = { .kind = WIRE_FILES };
+	int i, end;
+
+	welcome(&raw);
+	for (i = 0; i < 3; i++) {
+		end = lingering_socket();
+		check(send_message(raw.control, &message, &end, 1));
+		/* doord has it, and the one before has given way; our copy is not the last */
+		pass_by(&raw);
+		close(end);
+	}
+}
+
 /* A fork of which it never says who the child is: it has a descriptor of the door of another, and so has the child. */
 static void fork_and_die(void)
 {
@@ -312,6 +378,7 @@ int main(int argc, char **argv)
 		void (*run)(void);
 	} ways[] = {
 		{ "dies", dies }, { "stops", stops }, { "twice", twice }, { "interrupts", interrupts }, { "longer", longer }, { "knocks", knocks },
+		{ "doubles", doubles }, { "lingers", lingers },
 		{ "forks", forks },
 	};
 	size_t i;

