@@ -1,4 +1,4 @@
-# Daemons as one meets them: c/examples/nscd and c/examples/authd, and clients that do without them where they have to.
+# A daemon as one meets them, c/examples/nscd, and clients that do without it where they have to.
 # Read by tests/c.sh, which has the words that the cases use.
 
 # What the scripts of nscd begin with: a folder `etc` of its files, and words over it. `blocks FILE` makes look-ups in that file wait;
@@ -156,7 +156,8 @@ readme_of() {
     mkdir -p "$work/d/crates/doorlab/out"
     ln -s "$DOORLAB" "$work/d/crates/doorlab/out/doorlab"
     awk '/^```sh$/ { in_block = 1; next } /^```$/ { in_block = 0 } in_block' "c/examples/$1/README.md" >"$work/script"
-    alike="s|/[^ ]*/etc|/etc|; s/legal [0-9]*/legal N/; s/[0-9]* threads/N threads/; s/\(nscd\|process\) [0-9][0-9]*/\1 N/g"
+    alike="s|/[^ ]*/etc|/etc|; s/legal [0-9]*/legal N/; s/[0-9]* threads/N threads/; s/\(nscd\|process\) [0-9][0-9]*/\1 N/g; s/uid [0-9]*/uid N/
+s/^[0-9]* [0-9]*: /N N: /"
     awk '/^```/ { in_block = !in_block; next } !in_block && sub(/^    /, "")' "c/examples/$1/README.md" | sed "$alike" >"$work/shown"
     [ -s "$work/shown" ] || wrong "the page" "lines that are shown" "none"
     (
