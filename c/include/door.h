@@ -1,6 +1,7 @@
 /*
  * door.h: doors, as door_create(3C), door_call(3C), door_return(3C), door_revoke(3C), door_bind(3C), door_info(3C),
- * door_getparam(3C), door_cred(3C) and door_server_create(3C) have them. Programs are linked with -ldoor and run under doord(1).
+ * door_getparam(3C), door_cred(3C), door_ucred(3C) and door_server_create(3C) have them. Programs are linked with -ldoor and
+ * run under doord(1).
  */
 #ifndef _DOOR_H
 #define _DOOR_H
@@ -8,6 +9,7 @@
 #include <stddef.h>
 #include <stdint.h>
 #include <sys/types.h>
+#include <ucred.h>
 
 #ifdef __cplusplus
 extern "C" {
@@ -103,6 +105,7 @@ int door_info(int, door_info_t *);
 int door_getparam(int, int, size_t *);
 int door_setparam(int, int, size_t);
 int door_cred(door_cred_t *);
+int door_ucred(ucred_t **);
 door_server_func_t *door_server_create(door_server_func_t *);
 
 #ifdef __cplusplus

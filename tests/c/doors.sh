@@ -18,6 +18,11 @@ case_credentials() {
     gives "cred: pid is right euid $user egid $group ruid $user rgid $group" 'done'
 }
 
+case_ucred() {
+    run 'ucreds w & pid=$!; doorwait w; ask w x; touch asked; wait $pid; grep -c " cred = ok process " "$HISTORY"'
+    gives 'x: ok' 'done' 6
+}
+
 case_descriptors() {
     run pass
     gives 'done'

@@ -10,7 +10,7 @@ case_headers() {
             $compiler -c -o "$work/object" $strict -Ic/include "$file" >"$work/err" 2>&1
             [ ! -s "$work/err" ] || wrong "$compiler $file" "no message" "$(cat "$work/err")"
         done
-        for header in door.h sys/door.h stropts.h port.h; do
+        for header in door.h sys/door.h ucred.h stropts.h port.h; do
             echo "#include <$header>" >"$work/one.c"
             $compiler -fsyntax-only -std=c11 -Wall -Wextra -Wpedantic -Werror -Ic/include "$work/one.c" >"$work/err" 2>&1 ||
                 wrong "$compiler $header" "no message" "$(cat "$work/err")"
