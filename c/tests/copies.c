@@ -123,6 +123,31 @@ static void refused(int w, int x)
 	check(file == used && dup2(w, x) == x && same(w, x));
 }
 
+/* No door has a number of 65,536 or more; a file may have. */
+static void high_numbers(int w)
+{
+	enum { HIGH = 65536 };
+	struct rlimit limit, many;
+	int file = open("file", O_RDWR), door = open("x", O_RDWR);
+
+	check(getrlimit(RLIMIT_NOFILE, &limit) == 0);
+	many = limit;
+	many.rlim_cur = HIGH + 10;
+	if (many.rlim_max < many.rlim_cur)
+		many.rlim_max = many.rlim_cur;
+	if (setrlimit(RLIMIT_NOFILE, &many) == -1) {
+		check(close(file) == 0 && close(door) == 0);
+		return;
+	}
+	fails(dup2(w, HIGH), EBADF);
+	fails(fcntl(w, F_DUPFD, HIGH), EMFILE);
+	check(has_closed(HIGH) && dup2(w, HIGH - 1) == HIGH - 1 && same(w, HIGH - 1) && !same(door, HIGH - 1));
+	check(dup2(file, HIGH) == HIGH && write(HIGH, "x", 1) == 1 && close(HIGH) == 0 && close(file) == 0 && close(door) == 0);
+	fails(fcntl(w, F_DUPFD, HIGH - 1), EMFILE);
+	check(close_range(HIGH - 100, ~0u, 0) == 0 && has_closed(HIGH - 1) && is_door(w, "below"));
+	check(setrlimit(RLIMIT_NOFILE, &limit) == 0);
+}
+
 /* What the library keeps for itself looks as if it were not open, and stays. */
 static void kept(int w)
 {
@@ -222,6 +247,7 @@ int main(int argc, char **argv)
 	flags();
 	onto(w, x);
 	refused(w, x);
+	high_numbers(w);
 	kept(w);
 	say("done");
 	ranges(w);
