@@ -43,6 +43,13 @@ pub(crate) struct Act {
     pub number: u64,
     /// How many events of a port it wants.
     pub wanted: u64,
-    /// The name of the error that it answered, or nothing.
-    pub error: &'static [u8],
+    /// The name of the error that it answered.
+    pub error: Option<&'static str>,
+}
+
+impl Act {
+    /// Whether it answered no error.
+    pub fn is_done(&self) -> bool {
+        self.error.is_none()
+    }
 }

@@ -1,41 +1,64 @@
 //! Words of the command line that are no command.
 
-use crate::messages::{Message, Said, tell};
-use crate::report::Report;
-use crate::rule::is_same;
+use crate::shown::Shown;
+use std::fmt;
 
-static COMMANDS: [&[u8]; 5] = [b"play", b"run", b"show", b"check", b"load"];
+static COMMANDS: [&str; 4] = ["play", "run", "show", "check"];
 
 /// What is wrong with the words of the command line.
-pub(crate) fn tell_words(report: &mut Report, words: &[&str]) {
-    if words.is_empty() {
-        return tell(report, Said::NoCommand, 0);
-    }
-    let name = words[0].as_bytes();
-    let mut said = Said::UnknownCommand;
-    for command in &COMMANDS {
-        if is_same(name, command) {
-            said = Said::WordTooMany;
+#[derive(Clone, Copy)]
+pub(crate) enum WordsFault<'a> {
+    NoCommand,
+    NoSuchCommand(&'a str),
+    /// A command that takes no word has this one.
+    WordTooMany(&'a str),
+    /// The word after `load` is no number of calls.
+    NoLoad(&'a str),
+    /// After `load` stands no word, or more than one.
+    LoadTakesOne,
+}
+
+impl<'a> WordsFault<'a> {
+    pub fn of(words: &[&'a str]) -> Self {
+        match words {
+            [] => WordsFault::NoCommand,
+            ["load", calls] => WordsFault::NoLoad(calls),
+            ["load", ..] => WordsFault::LoadTakesOne,
+            [command, word, ..] if COMMANDS.contains(command) => WordsFault::WordTooMany(word),
+            [command, ..] => WordsFault::NoSuchCommand(command),
         }
     }
-    if is_same(name, b"load") {
-        said = Said::LoadTakesOne;
-        if words.len() == 2 {
-            said = Said::WrongLoad;
+}
+
+impl fmt::Display for WordsFault<'_> {
+    fn fmt<W: fmt::Write>(&self, f: &mut fmt::Formatter<W>) -> fmt::Result {
+        match self {
+            WordsFault::NoCommand => writeln!(f, "    no command is given"),
+            WordsFault::NoSuchCommand(name) => {
+                let name = Shown(name.as_bytes());
+                writeln!(
+                    f,
+                    "    there is no command '{name}': there are play, run, show, check and load"
+                )
+            }
+            WordsFault::WordTooMany(word) => {
+                let word = Shown(word.as_bytes());
+                writeln!(
+                    f,
+                    "    '{word}' is a word too many: the input is no word, but comes after '<', as in: doors play < FILE"
+                )
+            }
+            WordsFault::NoLoad(word) => {
+                let word = Shown(word.as_bytes());
+                writeln!(
+                    f,
+                    "    '{word}' is no N of 'load N': N is a number from 1 to 16000, without a sign or zeros before it"
+                )
+            }
+            WordsFault::LoadTakesOne => writeln!(
+                f,
+                "    after 'load' one word stands, a number from 1 to 16000"
+            ),
         }
     }
-    let mut by: &[u8] = &[];
-    if words.len() > 1 {
-        by = words[1].as_bytes();
-    }
-    let message = Message {
-        said,
-        name,
-        word: name,
-        by,
-        event: 0,
-        number: 0,
-        other: 0,
-    };
-    message.tell(report);
 }

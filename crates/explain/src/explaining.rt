@@ -1,62 +1,53 @@
 //! What is said of an answer, for its command, the input, the output and the status.
 
-use crate::bad_line::{BadLine, bad_line_of, number_of, tell_bad_line, tell_joined};
-use crate::command::tell_words;
-use crate::messages::{Said, tell};
-use crate::outline::line_at;
+use crate::bad_line::{BadLine, tell_bad_line, tell_joined};
+use crate::command::WordsFault;
+use crate::outline::Outline;
 use crate::player::Player;
 use crate::report::Report;
-use crate::rule::is_same;
-use crate::run::Run;
-use crate::run_told::{tell_able, tell_refused, tell_waiting};
-use crate::trace_told::{Trace, tell_no_turn, tell_other};
-use crate::warnings::warn;
-use crate::words::word_at;
+use crate::run::{Run, Trace};
+use crate::run_told::{tell_budget, tell_others, tell_refused, tell_stalled};
+use crate::trace_told::{Verdict, tell_no_turn};
 use dk_base::error::NoMemory;
 use dk_base::list::Bytes;
 use script_line::reason::Reason;
 use std::alloc::Global;
 
+/// What an input of `check` is.
+const CHECKED: &str =
+    "    the input of 'check' is a script, a line that is exactly 'trace', and a trace\n";
+
 /// What is wrong with an input of `check`, by what stands before its line `trace`; without such a line that is all.
-fn tell_bad(alloc: Global, report: &mut Report, text: &[u8], has_trace: bool, bad: BadLine) {
-    if has_trace {
-        if text.is_empty() {
-            return tell(report, Said::NoScript, 0);
-        }
-        return tell_bad_line(alloc, report, text, bad);
+fn tell_bad_input(alloc: Global, report: &mut Report, text: &[u8], has_trace: bool, bad: BadLine) {
+    if has_trace && text.is_empty() {
+        report.put("doors: line 1: no script stands before the line 'trace'\n");
+        return report.put(CHECKED);
     }
     if let Reason::Trace = bad.reason {
-        tell(report, Said::NoTrace, bad.number);
+        let number = bad.number;
+        report.tell(&format_args!(
+            "doors: line {number}: the input ends without a line 'trace' after the script\n"
+        ));
+        report.put(CHECKED);
     } else {
         tell_bad_line(alloc, report, text, bad);
     }
-    tell_joined(report, bad.number, text);
-}
-
-/// What is said of a run that was taken again by the lines of its trace.
-fn tell_taken(report: &mut Report, run: &Run<'_>, trace: Trace<'_>, status: u8) {
-    match status {
-        1 => {
-            tell(report, Said::Stalled, 0);
-            if tell_waiting(report, run, false) {
-                tell_waiting(report, run, true);
-            }
-        }
-        4 => tell_able(report, run, Said::Budget),
-        9 => {
-            tell_no_turn(report, run, trace);
-            tell_able(report, run, Said::AbleThreads);
-        }
-        _ => tell_refused(report, run),
+    if !has_trace {
+        tell_joined(report, bad.number, text);
     }
 }
 
-/// `want` and `have` take so many bytes of a line of an answer, with the space after them.
-const NAMED: usize = 5;
-
-/// What stands after `want` or `have` in a line of an answer.
-fn after_named(line: &[u8]) -> &[u8] {
-    line.split_at(NAMED.min(line.len())).1
+/// What is said of a run that was taken again by the lines of its trace.
+fn tell_taken(report: &mut Report, run: &Run<'_>, verdict: Verdict<'_>, status: u8) {
+    match status {
+        1 => tell_stalled(report, run),
+        4 => tell_budget(report, run),
+        9 => {
+            tell_no_turn(report, run, verdict);
+            tell_others(report, run);
+        }
+        _ => tell_refused(report, run),
+    }
 }
 
 /// What is said of a run, by its script, the trace that `check` was given, and what a command answered. The run is taken again, but for
@@ -69,66 +60,64 @@ fn tell_run<'a, P: Player>(
     output: &'a [u8],
     status: u8,
 ) {
-    let nothing: &[u8] = &[];
-    let mut trace = Trace {
-        text: output,
-        line: u64::MAX,
-        want: nothing,
-        have: nothing,
+    let verdict = Verdict::of(output);
+    if status == 9 && !verdict.wants_turn() {
+        return report.tell(&verdict);
+    }
+    let trace = match given {
+        Some(text) => Trace {
+            text,
+            last: verdict.line,
+        },
+        None => Trace {
+            text: output,
+            last: u64::MAX,
+        },
     };
-    if let Some(given) = given {
-        trace.text = given;
-        trace.line = number_of(word_at(line_at(output, 1), 2));
-        trace.want = after_named(line_at(output, 2));
-        trace.have = after_named(line_at(output, 3));
-    }
-    if status == 9 && !is_same(trace.want, b"turn") {
-        return tell_other(report, trace);
-    }
-    let run = &mut Run::new(alloc, report, text, &trace, status != 4);
+    let run = &mut Run::new(alloc, report, text, trace, status != 4);
     if let Err(NoMemory) = P::play(alloc, text, run) {
         report.lose();
     }
-    tell_taken(report, run, trace, status);
+    tell_taken(report, run, verdict, status);
 }
 
-/// What is said of an answer, and the warnings on the script. Of an input that is not kept no more is told than that it is too long.
+/// What is said of the answer of a command that reads, and the warnings on the script. Of an input that is not kept no more is told than
+/// that it is too long.
 fn tell_answer<P: Player>(
     alloc: Global,
     report: &mut Report,
-    words: &[&str],
+    command: &str,
     input: Option<&[u8]>,
-    output: Option<&[u8]>,
+    output: &[u8],
     status: u8,
 ) {
-    match status {
-        3 => return tell_words(report, words),
-        5..=7 => return,
-        _ => {}
-    }
-    let Some(output) = output else {
-        return;
-    };
-    if words.len() != 1 {
-        return;
-    }
-    let bad = bad_line_of(output);
-    if let Reason::Size = bad.reason {
-        return tell(report, Said::TooLong, 0);
+    let bad = BadLine::of(output);
+    if let Some(
+        BadLine {
+            reason: Reason::Size,
+            ..
+        },
+    ) = bad
+    {
+        return report.put(
+            "doors: the input has too many bytes: a script may have 1048576, the input of 'check' 403701760\n",
+        );
     }
     let Some(input) = input else {
         return;
     };
     // no script has a line `trace`
     let (text, trace) = P::parts(input);
-    if bad.number == 0 {
+    let Some(bad) = bad else {
         if status != 0 {
             tell_run::<P>(alloc, report, text, trace, output, status);
         }
-        warn(alloc, report, text);
-    } else if is_same(words[0].as_bytes(), b"check") {
+        let outline = Outline::new(alloc, report, text, 0);
+        return outline.warner().tell(report);
+    };
+    if command == "check" {
         // where there is no line `trace`, all is the script's
-        tell_bad(alloc, report, text, text.len() < input.len(), bad);
+        tell_bad_input(alloc, report, text, text.len() < input.len(), bad);
     } else {
         tell_bad_line(alloc, report, input, bad);
     }
@@ -145,11 +134,14 @@ pub fn explanation<P: Player>(
     output: Option<&[u8]>,
     status: u8,
 ) -> Result<Bytes, NoMemory> {
-    let mut report = Report {
-        text: Bytes::new(alloc),
-        is_lost: false,
-    };
-    tell_answer::<P>(alloc, &mut report, words, input, output, status);
-    let Report { text, is_lost } = report;
-    if is_lost { Err(NoMemory) } else { Ok(text) }
+    let mut report = Report::new(alloc);
+    match (status, words, output) {
+        (3, _, _) => report.tell(&WordsFault::of(words)),
+        (5..=7, _, _) => {}
+        (_, [command], Some(output)) => {
+            tell_answer::<P>(alloc, &mut report, command, input, output, status);
+        }
+        _ => {}
+    }
+    report.into_text()
 }

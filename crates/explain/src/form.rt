@@ -1,12 +1,11 @@
-//! The forms of lines.
+//! The forms of lines, by the words that begin them.
 
 use crate::operand::Operand;
-use crate::rule::is_same;
-use crate::words::word_at;
+use std::fmt;
 
 /// What a word is that begins a line.
 #[derive(Clone, Copy)]
-pub enum Role {
+pub(crate) enum Role {
     Budget,
     Process,
     Child,
@@ -26,13 +25,15 @@ pub enum Role {
     End,
     /// Another command.
     Command,
-    /// No word of the language.
-    Unknown,
 }
 
-/// What stands in a line.
+/// What stands in a line that begins with a keyword.
 pub(crate) struct Form {
-    pub text: &'static str,
+    pub keyword: &'static str,
+    /// What follows it, as it is told.
+    pub rest: &'static str,
+    /// The least version of scripts that have it.
+    pub since: u32,
     pub role: Role,
     /// What the line has in any case, and then `End`. A `Var` is a variable that it sets; at most two stand there, before all others.
     pub operands: [Operand; 4],
@@ -40,322 +41,419 @@ pub(crate) struct Form {
     pub tail: Operand,
 }
 
+impl Form {
+    /// Whether such a line sets a variable.
+    pub fn sets_variables(&self) -> bool {
+        matches!(self.operands, [Operand::Var, ..])
+    }
+}
+
+impl fmt::Display for Form {
+    fn fmt<W: fmt::Write>(&self, f: &mut fmt::Formatter<W>) -> fmt::Result {
+        f.write_str(self.keyword)?;
+        if self.rest.is_empty() {
+            return Ok(());
+        }
+        write!(f, " {}", self.rest)
+    }
+}
+
+/// The form of a line that begins with this word.
+pub(crate) fn form_of(word: &[u8]) -> Option<&'static Form> {
+    FORMS.iter().find(|form| form.keyword.as_bytes() == word)
+}
+
 static FORMS: [Form; 49] = [
     Form {
-        text: "create VAR PROC COOKIE [ATTR ...]",
+        keyword: "create",
+        rest: "VAR PROC COOKIE [ATTR ...]",
+        since: 1,
         role: Role::Create,
         operands: [Operand::Var, Operand::Proc, Operand::Cookie, Operand::End],
         tail: Operand::Attr,
     },
     Form {
-        text: "call VAR FD DATA [desc PASS ...] [rsize N]",
+        keyword: "call",
+        rest: "VAR FD DATA [desc PASS ...] [rsize N]",
+        since: 1,
         role: Role::Command,
         operands: [Operand::Var, Operand::Fd, Operand::Piece, Operand::End],
         tail: Operand::AfterCalled,
     },
     Form {
-        text: "return DATA [desc PASS ...]",
+        keyword: "return",
+        rest: "DATA [desc PASS ...]",
+        since: 1,
         role: Role::Command,
         operands: [Operand::Piece, Operand::End, Operand::End, Operand::End],
         tail: Operand::AfterReturned,
     },
     Form {
-        text: "serve",
+        keyword: "serve",
+        rest: "",
+        since: 1,
         role: Role::Serve,
         operands: [Operand::End, Operand::End, Operand::End, Operand::End],
         tail: Operand::End,
     },
     Form {
-        text: "revoke FD",
+        keyword: "revoke",
+        rest: "FD",
+        since: 1,
         role: Role::Command,
         operands: [Operand::Fd, Operand::End, Operand::End, Operand::End],
         tail: Operand::End,
     },
     Form {
-        text: "bind FD",
+        keyword: "bind",
+        rest: "FD",
+        since: 1,
         role: Role::Bind,
         operands: [Operand::Fd, Operand::End, Operand::End, Operand::End],
         tail: Operand::End,
     },
     Form {
-        text: "unbind",
+        keyword: "unbind",
+        rest: "",
+        since: 1,
         role: Role::Command,
         operands: [Operand::End, Operand::End, Operand::End, Operand::End],
         tail: Operand::End,
     },
     Form {
-        text: "info FD, or info query",
+        keyword: "info",
+        rest: "FD, or info query",
+        since: 1,
         role: Role::Command,
         operands: [Operand::Door, Operand::End, Operand::End, Operand::End],
         tail: Operand::End,
     },
     Form {
-        text: "getparam FD PARAM",
+        keyword: "getparam",
+        rest: "FD PARAM",
+        since: 1,
         role: Role::Command,
         operands: [Operand::Fd, Operand::Param, Operand::End, Operand::End],
         tail: Operand::End,
     },
     Form {
-        text: "setparam FD PARAM N",
+        keyword: "setparam",
+        rest: "FD PARAM N",
+        since: 1,
         role: Role::Command,
         operands: [Operand::Fd, Operand::Param, Operand::Value, Operand::End],
         tail: Operand::End,
     },
     Form {
-        text: "cred",
+        keyword: "cred",
+        rest: "",
+        since: 1,
         role: Role::Command,
         operands: [Operand::End, Operand::End, Operand::End, Operand::End],
         tail: Operand::End,
     },
     Form {
-        text: "testcancel",
+        keyword: "testcancel",
+        rest: "",
+        since: 1,
         role: Role::Command,
         operands: [Operand::End, Operand::End, Operand::End, Operand::End],
         tail: Operand::End,
     },
     Form {
-        text: "exit",
+        keyword: "exit",
+        rest: "",
+        since: 1,
         role: Role::Exit,
         operands: [Operand::End, Operand::End, Operand::End, Operand::End],
         tail: Operand::End,
     },
     Form {
-        text: "close FD",
+        keyword: "close",
+        rest: "FD",
+        since: 1,
         role: Role::Command,
         operands: [Operand::Fd, Operand::End, Operand::End, Operand::End],
         tail: Operand::End,
     },
     Form {
-        text: "dup VAR FD",
+        keyword: "dup",
+        rest: "VAR FD",
+        since: 1,
         role: Role::Command,
         operands: [Operand::Var, Operand::Fd, Operand::End, Operand::End],
         tail: Operand::End,
     },
     Form {
-        text: "attach FD PATH",
+        keyword: "attach",
+        rest: "FD PATH",
+        since: 1,
         role: Role::Command,
         operands: [Operand::Fd, Operand::Path, Operand::End, Operand::End],
         tail: Operand::End,
     },
     Form {
-        text: "detach PATH",
+        keyword: "detach",
+        rest: "PATH",
+        since: 1,
         role: Role::Command,
         operands: [Operand::Path, Operand::End, Operand::End, Operand::End],
         tail: Operand::End,
     },
     Form {
-        text: "open VAR PATH",
+        keyword: "open",
+        rest: "VAR PATH",
+        since: 1,
         role: Role::Command,
         operands: [Operand::Var, Operand::Path, Operand::End, Operand::End],
         tail: Operand::End,
     },
     Form {
-        text: "await PATH",
+        keyword: "await",
+        rest: "PATH",
+        since: 1,
         role: Role::Command,
         operands: [Operand::Path, Operand::End, Operand::End, Operand::End],
         tail: Operand::End,
     },
     Form {
-        text: "pipe VAR VAR",
+        keyword: "pipe",
+        rest: "VAR VAR",
+        since: 1,
         role: Role::Command,
         operands: [Operand::Var, Operand::Var, Operand::End, Operand::End],
         tail: Operand::End,
     },
     Form {
-        text: "write FD DATA",
+        keyword: "write",
+        rest: "FD DATA",
+        since: 1,
         role: Role::Command,
         operands: [Operand::Fd, Operand::Piece, Operand::End, Operand::End],
         tail: Operand::AfterData,
     },
     Form {
-        text: "read VAR FD N",
+        keyword: "read",
+        rest: "VAR FD N",
+        since: 1,
         role: Role::Command,
         operands: [Operand::Var, Operand::Fd, Operand::Bytes, Operand::End],
         tail: Operand::End,
     },
     Form {
-        text: "pcreate VAR",
+        keyword: "pcreate",
+        rest: "VAR",
+        since: 1,
         role: Role::Command,
         operands: [Operand::Var, Operand::End, Operand::End, Operand::End],
         tail: Operand::End,
     },
     Form {
-        text: "associate FD FD POLL USER",
+        keyword: "associate",
+        rest: "FD FD POLL USER",
+        since: 1,
         role: Role::Command,
         operands: [Operand::Fd, Operand::Fd, Operand::Poll, Operand::User],
         tail: Operand::End,
     },
     Form {
-        text: "dissociate FD FD",
+        keyword: "dissociate",
+        rest: "FD FD",
+        since: 1,
         role: Role::Command,
         operands: [Operand::Fd, Operand::Fd, Operand::End, Operand::End],
         tail: Operand::End,
     },
     Form {
-        text: "get FD [nowait]",
+        keyword: "get",
+        rest: "FD [nowait]",
+        since: 1,
         role: Role::Command,
         operands: [Operand::Fd, Operand::End, Operand::End, Operand::End],
         tail: Operand::NoWait,
     },
     Form {
-        text: "getn FD MAX NGET [nowait]",
+        keyword: "getn",
+        rest: "FD MAX NGET [nowait]",
+        since: 1,
         role: Role::Command,
         operands: [Operand::Fd, Operand::Max, Operand::NGet, Operand::End],
         tail: Operand::NoWait,
     },
     Form {
-        text: "send FD EV USER",
+        keyword: "send",
+        rest: "FD EV USER",
+        since: 1,
         role: Role::Command,
         operands: [Operand::Fd, Operand::Ev, Operand::User, Operand::End],
         tail: Operand::End,
     },
     Form {
-        text: "sendn EV USER FD ...",
+        keyword: "sendn",
+        rest: "EV USER FD ...",
+        since: 1,
         role: Role::Command,
         operands: [Operand::Ev, Operand::User, Operand::Fd, Operand::End],
         tail: Operand::Fd,
     },
     Form {
-        text: "alert FD MODE EV USER",
+        keyword: "alert",
+        rest: "FD MODE EV USER",
+        since: 1,
         role: Role::Command,
         operands: [Operand::Fd, Operand::Mode, Operand::Ev, Operand::User],
         tail: Operand::End,
     },
     Form {
-        text: "tcreate FD USER",
+        keyword: "tcreate",
+        rest: "FD USER",
+        since: 3,
         role: Role::Command,
         operands: [Operand::Fd, Operand::User, Operand::End, Operand::End],
         tail: Operand::End,
     },
     Form {
-        text: "tset ID FIRST INTERVAL",
+        keyword: "tset",
+        rest: "ID FIRST INTERVAL",
+        since: 3,
         role: Role::Command,
         operands: [Operand::Id, Operand::First, Operand::Interval, Operand::End],
         tail: Operand::End,
     },
     Form {
-        text: "tdelete ID",
+        keyword: "tdelete",
+        rest: "ID",
+        since: 3,
         role: Role::Command,
         operands: [Operand::Id, Operand::End, Operand::End, Operand::End],
         tail: Operand::End,
     },
     Form {
-        text: "advance N",
+        keyword: "advance",
+        rest: "N",
+        since: 3,
         role: Role::Command,
         operands: [Operand::Advance, Operand::End, Operand::End, Operand::End],
         tail: Operand::End,
     },
     Form {
-        text: "interrupt THREAD",
+        keyword: "interrupt",
+        rest: "THREAD",
+        since: 1,
         role: Role::Interrupt,
         operands: [Operand::Thread, Operand::End, Operand::End, Operand::End],
         tail: Operand::End,
     },
     Form {
-        text: "kill PROCESS",
+        keyword: "kill",
+        rest: "PROCESS",
+        since: 1,
         role: Role::Kill,
         operands: [Operand::Process, Operand::End, Operand::End, Operand::End],
         tail: Operand::End,
     },
     Form {
-        text: "fork CHILD",
+        keyword: "fork",
+        rest: "CHILD",
+        since: 2,
         role: Role::Kill,
         operands: [Operand::Child, Operand::End, Operand::End, Operand::End],
         tail: Operand::End,
     },
     Form {
-        text: "work VAR OP DATA",
+        keyword: "work",
+        rest: "VAR OP DATA",
+        since: 1,
         role: Role::Command,
         operands: [Operand::Var, Operand::Op, Operand::Piece, Operand::End],
         tail: Operand::AfterData,
     },
     Form {
-        text: "ncd VAR DATA",
+        keyword: "ncd",
+        rest: "VAR DATA",
+        since: 4,
         role: Role::Command,
         operands: [Operand::Var, Operand::Piece, Operand::End, Operand::End],
         tail: Operand::AfterData,
     },
     Form {
-        text: "repeat N",
+        keyword: "repeat",
+        rest: "N",
+        since: 1,
         role: Role::Block,
         operands: [Operand::Times, Operand::End, Operand::End, Operand::End],
         tail: Operand::End,
     },
     Form {
-        text: "if COND",
+        keyword: "if",
+        rest: "COND",
+        since: 1,
         role: Role::Block,
         operands: [Operand::Cond, Operand::End, Operand::End, Operand::End],
         tail: Operand::End,
     },
     Form {
-        text: "end",
+        keyword: "end",
+        rest: "",
+        since: 1,
         role: Role::End,
         operands: [Operand::End, Operand::End, Operand::End, Operand::End],
         tail: Operand::End,
     },
     Form {
-        text: "process NAME [limit N]",
+        keyword: "process",
+        rest: "NAME [limit N]",
+        since: 1,
         role: Role::Process,
         operands: [Operand::Name, Operand::End, Operand::End, Operand::End],
         tail: Operand::LimitWord,
     },
     Form {
-        text: "thread NAME",
+        keyword: "thread",
+        rest: "NAME",
+        since: 1,
         role: Role::Thread,
         operands: [Operand::Name, Operand::End, Operand::End, Operand::End],
         tail: Operand::End,
     },
     Form {
-        text: "spare NAME",
+        keyword: "spare",
+        rest: "NAME",
+        since: 1,
         role: Role::Spare,
         operands: [Operand::Name, Operand::End, Operand::End, Operand::End],
         tail: Operand::End,
     },
     Form {
-        text: "proc NAME",
+        keyword: "proc",
+        rest: "NAME",
+        since: 1,
         role: Role::Proc,
         operands: [Operand::Name, Operand::End, Operand::End, Operand::End],
         tail: Operand::End,
     },
     Form {
-        text: "child NAME of PARENT",
+        keyword: "child",
+        rest: "NAME of PARENT",
+        since: 2,
         role: Role::Child,
         operands: [Operand::Name, Operand::Of, Operand::Parent, Operand::End],
         tail: Operand::End,
     },
     Form {
-        text: "budget N",
+        keyword: "budget",
+        rest: "N",
+        since: 1,
         role: Role::Budget,
         operands: [Operand::Budget, Operand::End, Operand::End, Operand::End],
         tail: Operand::End,
     },
     Form {
-        text: "schedule THREAD ...",
+        keyword: "schedule",
+        rest: "THREAD ...",
+        since: 1,
         role: Role::Schedule,
         operands: [Operand::Thread, Operand::End, Operand::End, Operand::End],
         tail: Operand::Thread,
     },
 ];
-
-pub(crate) fn forms() -> &'static [Form] {
-    &FORMS
-}
-
-/// Of a line without a word that begins lines.
-pub(crate) static NO_FORM: Form = Form {
-    text: "",
-    role: Role::Unknown,
-    operands: [Operand::End, Operand::End, Operand::End, Operand::End],
-    tail: Operand::End,
-};
-
-/// The form of a line, by its first word.
-pub(crate) fn form_of(line: &[u8]) -> &'static Form {
-    let word = word_at(line, 0);
-    for form in forms() {
-        if is_same(word_at(form.text.as_bytes(), 0), word) {
-            return form;
-        }
-    }
-    &NO_FORM
-}

@@ -1,188 +1,214 @@
-//! The lines of a script one after the other, and what is open before each, by the first words of the lines before it.
+//! What the lines of a script declare, where one of them stands, and what there is to warn of, found in one walk.
 
-ghost use Rattle.std.specs.Prelude.{◌≡◌, ◌<◌, true, length};
+use crate::form::{Form, Role};
+use crate::lines::{Line, Lines, line_at};
+use crate::report::Report;
+use crate::shown::Shown;
+use crate::walk::{Opener, Place, Walk};
+use crate::warnings::Warner;
+use crate::words::word_at;
+use script_text::number::{Number, bounded_number};
+use std::alloc::Global;
+use std::fmt;
 
-use crate::form::{Form, NO_FORM, Role, form_of};
-use script_text::lines::next_line;
+/// What has a name.
+#[derive(Clone, Copy, PartialEq, Eq)]
+pub(crate) enum Kind {
+    /// A process or a child.
+    Process,
+    /// A thread or a spare.
+    Thread,
+    Procedure,
+}
+
+impl Kind {
+    pub fn of(role: Role) -> Option<Kind> {
+        match role {
+            Role::Process | Role::Child => Some(Kind::Process),
+            Role::Thread | Role::Spare => Some(Kind::Thread),
+            Role::Proc => Some(Kind::Procedure),
+            _ => None,
+        }
+    }
+}
+
+/// A name that a line declares.
+#[derive(Clone, Copy)]
+pub(crate) struct Declaration<'a> {
+    kind: Kind,
+    name: &'a [u8],
+    /// The number of the line.
+    line: u64,
+    /// The number of the line that begins the last process before it.
+    process: u64,
+}
 
 /// Where a line stands.
 #[derive(Clone, Copy)]
-pub(crate) enum Place {
-    /// After the first line.
-    Start = 1,
-    /// After the budget.
-    Processes,
-    /// In a process, between its members.
-    Members,
-    /// After a schedule.
-    Schedule,
-    /// In a thread or a procedure, before its first block.
-    Body,
-    /// In a block.
-    Block,
-    /// After a block of a body.
-    AfterBlock,
-}
-
-/// The words of places, in their order.
-static PLACES: &[u8] = b"\
-after-header
-after-budget
-in-process
-after-schedule
-in-body
-in-block
-after-block
-";
-
-/// The lines of a text, one after the other.
-#[derive(Clone, Copy)]
-pub struct Lines<'a> {
-    /// The text after this line.
-    rest: &'a [u8],
-    /// From 1.
-    pub number: u64,
-    pub line: &'a [u8],
-}
-
-impl<'a> Lines<'a> {
-    /// Before the first line.
-    pub fn new(text: &'a [u8]) -> Self {
-        Lines {
-            rest: text,
-            number: 0,
-            line: &[],
-        }
-    }
-
-    /// Goes on to the next line, if there is one.
-    pub fn next(&mut self) -> bool
-        ensures shorter { result ≡ true → length self.new.rest.now < length self.old.rest.now }
-    {
-        let Some((line, rest)) = next_line(self.rest) else {
-            // no bytes are left
-            self.line = self.rest;
-            return false;
-        };
-        self.rest = rest;
-        self.number = self.number.saturating_add(1);
-        self.line = line;
-        true
-    }
-}
-
-/// The line of this number, without bytes where there is none.
-pub fn line_at(text: &[u8], number: u64) -> &[u8] {
-    let mut lines = Lines::new(text);
-    while lines.next() {
-        if lines.number == number {
-            return lines.line;
-        }
-    }
-    // no bytes are left
-    lines.rest
-}
-
-/// A line of a text, and what is open before it, where none of the lines before it is bad. What is open is told by the number of
-/// the line that begins it, 0 where there is none.
-#[derive(Clone, Copy)]
-pub(crate) struct Walk<'a> {
-    pub text: &'a [u8],
-    /// This line and those after it.
-    lines: Lines<'a>,
-    pub number: u64,
-    /// It has no bytes at the text's end.
-    pub line: &'a [u8],
-    pub form: &'static Form,
+pub(crate) struct Spot<'a> {
+    pub line: Line<'a>,
+    pub form: Option<&'static Form>,
     pub place: Place,
-    pub process: u64,
-    /// The thread or procedure.
-    pub body: u64,
-    /// The innermost that is open: the last body; where `walk_to` was told the line's depth a block.
-    pub opener: u64,
-    /// How many blocks are open in the body.
-    pub depth: u64,
+    /// The line that begins the last process before it.
+    pub process: Option<Line<'a>>,
+    /// What begins the thread or procedure in which it stands.
+    pub body: Option<Opener<'a>>,
+    /// What begins the innermost in which it stands.
+    pub innermost: Option<Opener<'a>>,
+    /// How many blocks are open there.
+    pub depth: usize,
 }
 
-impl<'a> Walk<'a> {
-    /// Before the first line.
-    pub(crate) fn new(text: &'a [u8]) -> Self {
-        Walk {
+impl<'a> Spot<'a> {
+    fn of(walk: &Walk<'a>, line: Line<'a>, form: Option<&'static Form>) -> Self {
+        Spot {
+            line,
+            form,
+            place: walk.place(),
+            process: walk.process(),
+            body: walk.body(),
+            innermost: walk.innermost(),
+            depth: walk.depth(),
+        }
+    }
+}
+
+/// What is found in the text of a script.
+#[derive(Drop)]
+pub(crate) struct Outline<'a> {
+    text: &'a [u8],
+    /// In the order of their lines.
+    declarations: Vec<Declaration<'a>>,
+    /// Of the line that is asked for, or of the text's end.
+    spot: Spot<'a>,
+    warner: Warner<'a>,
+}
+
+impl<'a> Outline<'a> {
+    /// The outline of a text, and the spot of its line of this number.
+    pub fn new(alloc: Global, report: &mut Report, text: &'a [u8], number: u64) -> Self {
+        let mut walk = Walk::new(alloc);
+        let end = Line { number, text: &[] };
+        let mut outline = Outline {
             text,
-            lines: Lines::new(text),
-            number: 0,
-            line: &[],
-            form: &NO_FORM,
-            place: Place::Start,
-            process: 0,
-            body: 0,
-            opener: 0,
-            depth: 0,
+            declarations: Vec::new(alloc),
+            spot: Spot::of(&walk, end, None),
+            warner: Warner::new(alloc),
+        };
+        let mut is_found = false;
+        for line in Lines::new(text) {
+            let form = line.form();
+            if line.number == number {
+                outline.spot = Spot::of(&walk, line, form);
+                is_found = true;
+            }
+            if let Some(form) = form {
+                outline.add(report, &walk, line, form);
+                walk.pass(report, line, form.role);
+            }
+        }
+        if !is_found {
+            outline.spot = Spot::of(&walk, end, None);
+        }
+        outline
+    }
+
+    /// Adds what a line declares, and what there is to warn of in it.
+    fn add(&mut self, report: &mut Report, walk: &Walk<'a>, line: Line<'a>, form: &'static Form) {
+        if walk.is_in_body() {
+            return self.warner.look_at_line(report, line, form, walk.depth());
+        }
+        self.warner.begin(report, form.role);
+        if let Some(kind) = Kind::of(form.role) {
+            let declaration = Declaration {
+                kind,
+                name: line.name(),
+                line: line.number,
+                process: number_of_line(walk.process()),
+            };
+            if self.declarations.push(declaration).is_err() {
+                report.lose();
+            }
         }
     }
 
-    /// Where the line stands, in a word.
-    pub(crate) fn place_word(&self) -> &'static [u8] {
-        line_at(PLACES, self.place as u64)
+    pub fn spot(&self) -> Spot<'a> {
+        self.spot
     }
 
-    /// Goes on to the next line, if there is one.
-    pub(crate) fn next(&mut self) -> bool
-        ensures shorter { result ≡ true → length self.new.lines.rest.now < length self.old.lines.rest.now }
-    {
-        // what is open after the line so far
-        if self.body != 0 {
-            match self.form.role {
-                Role::Block => {
-                    self.place = Place::Block;
-                    self.depth = self.depth.saturating_add(1);
-                }
-                Role::End => {
-                    match self.depth {
-                        0 => {
-                            self.place = Place::Members;
-                            self.body = 0;
-                        }
-                        1 => self.place = Place::AfterBlock,
-                        _ => {}
-                    }
-                    self.depth = self.depth.saturating_sub(1);
-                }
-                _ => {}
-            }
-        } else {
-            match self.form.role {
-                Role::Budget => self.place = Place::Processes,
-                Role::Process | Role::Child => {
-                    self.place = Place::Members;
-                    self.process = self.number;
-                }
-                Role::Thread | Role::Proc => {
-                    self.place = Place::Body;
-                    self.body = self.number;
-                    self.opener = self.number;
-                }
-                Role::Schedule => self.place = Place::Schedule,
-                _ => {}
+    pub fn warner(&self) -> &Warner<'a> {
+        &self.warner
+    }
+
+    /// The version of the script.
+    pub fn version(&self) -> u64 {
+        match bounded_number(word_at(line_at(self.text, 1), 2), 1, 3) {
+            Number::Found(version) => version,
+            _ => 4,
+        }
+    }
+
+    /// Whether it declares such a name for the line of the spot: of procedures those count that are of the same process.
+    fn declares(&self, declaration: &Declaration<'a>, kind: Kind) -> bool {
+        if declaration.kind != kind {
+            return false;
+        }
+        match kind {
+            Kind::Procedure => declaration.process == number_of_line(self.spot.process),
+            _ => true,
+        }
+    }
+
+    /// The number of the line that first declares such a name for the line of the spot.
+    pub fn declaration(&self, kind: Kind, name: &[u8]) -> Option<u64> {
+        for declaration in self.declarations.as_slice() {
+            if self.declares(declaration, kind) && declaration.name == name {
+                return Some(declaration.line);
             }
         }
-        let is_there = self.lines.next();
-        self.number = self.lines.number;
-        self.line = self.lines.line;
-        self.form = form_of(self.line);
-        is_there
+        None
+    }
+
+    /// What has this name.
+    pub fn kind_of(&self, name: &[u8]) -> Option<Kind> {
+        [Kind::Process, Kind::Thread, Kind::Procedure]
+            .iter()
+            .copied()
+            .find(|kind| self.declaration(*kind, name).is_some())
     }
 }
 
-/// The line of this number, or the text's end, and the last line before it that fewer blocks than `depth` are open before.
-pub(crate) fn walk_to(text: &[u8], number: u64, depth: u64) -> Walk<'_> {
-    let mut walk = Walk::new(text);
-    while walk.next() && walk.number != number {
-        // after the line that begins it no end has closed it
-        if walk.depth < depth {
-            walk.opener = walk.number;
+/// As many declared names are shown at most.
+const NAMES_MAX: usize = 16;
+
+/// The names of one kind that a script declares for the line of the spot, each after a space.
+#[derive(Drop)]
+pub(crate) struct Names<'o, 'a> {
+    pub outline: &'o Outline<'a>,
+    pub kind: Kind,
+}
+
+impl fmt::Display for Names<'_, '_> {
+    fn fmt<W: fmt::Write>(&self, f: &mut fmt::Formatter<W>) -> fmt::Result {
+        let mut left = NAMES_MAX;
+        for declaration in self.outline.declarations.as_slice() {
+            if !self.outline.declares(declaration, self.kind) {
+                continue;
+            }
+            if left == 0 {
+                return f.write_str(" ..");
+            }
+            left -= 1;
+            write!(f, " {}", Shown(declaration.name))?;
         }
+        if left == NAMES_MAX {
+            f.write_str(" none")?;
+        }
+        Ok(())
     }
-    walk.number = number;
-    walk
+}
+
+/// The number of a line, 0 where there is none.
+fn number_of_line(line: Option<Line<'_>>) -> u64 {
+    line.map_or(0, |line| line.number)
 }

@@ -1,130 +1,235 @@
 //! Warnings on scripts: variables that nothing sets, and lines that are never reached.
 
-use crate::case::Case;
-use crate::form::Role;
-use crate::names::Names;
+use crate::form::{Form, Role};
+use crate::lines::Line;
 use crate::operand::Operand;
-use crate::outline::{Walk, line_at};
 use crate::report::Report;
-use crate::said::Topic;
-use crate::words::{found_at, word_at};
+use crate::shown::{Marked, Shown};
+use crate::words::{Word, Words};
 use script_text::parts::{part_before_last, parts_at};
 use std::alloc::Global;
+use std::fmt;
 
 /// As many warnings are written at most.
-const WARNINGS_MAX: u64 = 12;
+const WARNINGS_MAX: usize = 12;
 
-/// The variables that the lines of the body set that begins in this line, where one does. A procedure has some that its call sets.
-fn begin<'a>(names: &mut Names<'a>, first: &Walk<'a>) {
-    names.list.clear();
-    if let Role::Proc = first.form.role {
-        names.add(b"arg");
-        names.add(b"cookie");
-    }
-    let mut walk = *first;
-    while walk.next() && walk.body != 0 {
-        if let Operand::Var = walk.form.operands[0] {
-            names.add(word_at(walk.line, 1));
-        }
-        if let Operand::Var = walk.form.operands[1] {
-            names.add(word_at(walk.line, 2));
+/// A line of a body after which no other is reached.
+#[derive(Clone, Copy)]
+struct Ending {
+    number: u64,
+    /// It is a `serve`, and not an `exit`.
+    serves: bool,
+}
+
+/// What there is to warn of.
+#[derive(Clone, Copy)]
+enum Warning<'a> {
+    /// A line is never reached.
+    Unreached {
+        line: Line<'a>,
+        ending: Ending,
+    },
+    /// A word of a line is a variable that no line of the body sets.
+    Unset {
+        line: Line<'a>,
+        word: Word<'a>,
+        variable: &'a [u8],
+    },
+}
+
+impl fmt::Display for Warning<'_> {
+    fn fmt<W: fmt::Write>(&self, f: &mut fmt::Formatter<W>) -> fmt::Result {
+        match self {
+            Warning::Unreached { line, ending } => {
+                let Line { number, text } = line;
+                let keyword = if ending.serves { "serve" } else { "exit" };
+                let last = ending.number;
+                let text = Shown(text);
+                writeln!(
+                    f,
+                    "doors: warning: line {number}: this line is never reached: '{keyword}' stands in line {last}\n    {text}"
+                )?;
+                if ending.serves {
+                    writeln!(
+                        f,
+                        "    a thread that serves runs procedures, and not the lines after 'serve'"
+                    )?;
+                }
+                Ok(())
+            }
+            Warning::Unset {
+                line,
+                word,
+                variable,
+            } => {
+                let Line { number, text } = line;
+                let variable = Shown(variable);
+                let marked = Marked {
+                    line: text,
+                    word: *word,
+                };
+                write!(
+                    f,
+                    "doors: warning: line {number}: no line of this body sets '{variable}'\n{marked}"
+                )
+            }
         }
     }
 }
 
-/// What the warnings on a script go by.
+impl Warning<'_> {
+    /// Whether it is of a line after a `serve`.
+    fn is_after_serve(&self) -> bool {
+        match self {
+            Warning::Unreached { ending, .. } => ending.serves,
+            Warning::Unset { .. } => false,
+        }
+    }
+
+    /// Whether it is of a variable that is one of these.
+    fn is_of_one_of(&self, variables: &[&[u8]]) -> bool {
+        match self {
+            Warning::Unreached { .. } => false,
+            Warning::Unset { variable, .. } => variables.contains(variable),
+        }
+    }
+}
+
+/// What there is to warn of in the lines so far, and what the next warnings go by.
 #[derive(Drop)]
-struct Warner<'a> {
+pub(crate) struct Warner<'a> {
+    /// In the bodies that are closed.
+    warnings: Vec<Warning<'a>>,
+    /// In the body that is open, as long as no later line sets the variables.
+    pending: Vec<Warning<'a>>,
+    /// The variables that lines of the body set.
+    set: Vec<&'a [u8]>,
+    /// Those of the pending warnings.
+    unset: Vec<&'a [u8]>,
+    /// The line before in the body, where no other is reached after it.
+    ending: Option<Ending>,
     /// Some thread may be bound to a door, whose `serve` may then end.
     binds: bool,
-    /// The line of the body after which no other is reached, 0 where there is none.
-    last: u64,
-    /// So many more warnings may be written.
-    left: u64,
-    /// The variables that the body sets, and those that were warned of.
-    names: Names<'a>,
 }
 
 impl<'a> Warner<'a> {
-    /// Warns of a word that is a variable, if nothing sets it and this is its first place in the body.
-    fn warn_word(&mut self, report: &mut Report, case: &mut Case<'_, 'a>) {
-        let [b'$', name @ ..] = case.found.word else {
-            return;
-        };
-        let name = part_before_last(b'!', name).unwrap_or(name);
-        let name = parts_at(b'.', name).unwrap_or((name, name)).0;
-        if self.left > 0 && self.names.add(name) {
-            self.left -= 1;
-            case.said = Topic::Unset;
-            case.said_for = name;
-            case.tell(report);
+    pub fn new(alloc: Global) -> Self {
+        Warner {
+            warnings: Vec::new(alloc),
+            pending: Vec::new(alloc),
+            set: Vec::new(alloc),
+            unset: Vec::new(alloc),
+            ending: None,
+            binds: false,
         }
     }
 
-    /// Warns of a line.
-    fn warn_line(&mut self, report: &mut Report, walk: &Walk<'a>) {
-        if walk.body == 0 {
-            return begin(&mut self.names, walk);
+    /// Begins a body, if such a line does. A procedure has variables that its call sets.
+    pub fn begin(&mut self, report: &mut Report, role: Role) {
+        if let Role::Proc = role {
+            self.add_set(report, b"arg");
+            self.add_set(report, b"cookie");
         }
-        if let Role::Unknown = walk.form.role {
+    }
+
+    /// Looks at a line of a body, before which so many blocks are open.
+    pub fn look_at_line(&mut self, report: &mut Report, line: Line<'a>, form: &Form, depth: usize) {
+        let ending = self.ending;
+        self.ending = None;
+        if let Role::End = form.role {
+            if depth == 0 {
+                self.end(report);
+            }
             return;
         }
-        let case = &mut Case::new(walk, Topic::Unreached);
-        if self.last != 0 {
-            if self.left > 0 && !matches!(walk.form.role, Role::End) {
-                self.left -= 1;
-                case.other = self.last;
-                case.said_for = word_at(line_at(walk.text, self.last), 0);
-                case.tell(report);
-            }
-            self.last = 0;
+        if let Some(ending) = ending {
+            self.put_off(report, Warning::Unreached { line, ending });
         }
-        if walk.depth == 0 {
-            match walk.form.role {
-                Role::Exit => self.last = walk.number,
-                Role::Serve => {
-                    if !self.binds {
-                        self.last = walk.number;
-                    }
-                }
-                _ => {}
+        let number = line.number;
+        match form.role {
+            Role::Bind => self.binds = true,
+            Role::Exit if depth == 0 => self.ending = Some(Ending {
+                number,
+                serves: false,
+            }),
+            Role::Serve if depth == 0 => self.ending = Some(Ending {
+                number,
+                serves: true,
+            }),
+            _ => {}
+        }
+        if !form.sets_variables() && !line.text.contains(&b'$') {
+            return;
+        }
+        let mut operands = form.operands.iter();
+        for word in Words::new(line.text).skip(1) {
+            if let Some(Operand::Var) = operands.next() {
+                self.add_set(report, word.text);
+            } else if let Some(variable) = variable_of(word.text) {
+                let warning = Warning::Unset {
+                    line,
+                    word,
+                    variable,
+                };
+                self.look_at_variable(report, variable, warning);
             }
         }
-        let mut found = case.found;
-        loop {
-            found = found_at(found.rest, 0);
-            if found.word.is_empty() {
-                return;
+    }
+
+    /// A line of the body sets a variable.
+    fn add_set(&mut self, report: &mut Report, variable: &'a [u8]) {
+        if !self.set.contains(&variable) && self.set.push(variable).is_err() {
+            report.lose();
+        }
+    }
+
+    /// A line of the body has a variable, of which is warned in this way unless it is known.
+    fn look_at_variable(&mut self, report: &mut Report, variable: &'a [u8], warning: Warning<'a>) {
+        if self.set.contains(&variable) || self.unset.contains(&variable) {
+            return;
+        }
+        if self.unset.push(variable).is_err() {
+            report.lose();
+        }
+        self.put_off(report, warning);
+    }
+
+    fn put_off(&mut self, report: &mut Report, warning: Warning<'a>) {
+        if self.pending.push(warning).is_err() {
+            report.lose();
+        }
+    }
+
+    /// The body ends: it is known which variables it sets.
+    fn end(&mut self, report: &mut Report) {
+        for warning in self.pending.as_slice() {
+            if !warning.is_of_one_of(self.set.as_slice()) && self.warnings.push(*warning).is_err() {
+                report.lose();
             }
-            case.found = found;
-            self.warn_word(report, case);
+        }
+        self.pending.clear();
+        self.set.clear();
+        self.unset.clear();
+    }
+
+    /// Tells the first of the warnings.
+    pub fn tell(&self, report: &mut Report) {
+        let mut left = WARNINGS_MAX;
+        for warning in self.warnings.as_slice() {
+            if left > 0 && !(self.binds && warning.is_after_serve()) {
+                left -= 1;
+                report.tell(warning);
+            }
         }
     }
 }
 
-/// The warnings on a script.
-pub fn warn(alloc: Global, report: &mut Report, text: &[u8]) {
-    let mut binds = false;
-    let mut line = Walk::new(text);
-    while line.next() {
-        if let Role::Bind = line.form.role {
-            binds = true;
-        }
-    }
-    let mut warner = Warner {
-        binds,
-        last: 0,
-        left: WARNINGS_MAX,
-        names: Names {
-            list: Vec::new(alloc),
-            is_lost: false,
-        },
-    };
-    let mut walk = Walk::new(text);
-    while walk.next() {
-        warner.warn_line(report, &walk);
-    }
-    if warner.names.is_lost {
-        report.lose();
+/// The variable that a word of a line is, or of which it is a part.
+fn variable_of(word: &[u8]) -> Option<&[u8]> {
+    let word = word.strip_prefix(b"$")?;
+    let word = part_before_last(b'!', word).unwrap_or(word);
+    match parts_at(b'.', word) {
+        Some((variable, _)) => Some(variable),
+        None => Some(word),
     }
 }
