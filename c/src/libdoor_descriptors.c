@@ -7,6 +7,7 @@
 
 #include <errno.h>
 #include <fcntl.h>
+#include <limits.h>
 #include <sys/resource.h>
 #include <sys/stat.h>
 #include <sys/syscall.h>
@@ -228,6 +229,7 @@ int new_stand_in_at(uint32_t row, int flags, int fd, int *end)
 	return settle_pipe(end, fd, row, flags);
 }
 
+/* At the lowest number from `least` on, which may be one that the pipe has taken. */
 int new_stand_in_above(uint32_t row, int flags, int least)
 {
 	int end[2];
@@ -235,6 +237,13 @@ int new_stand_in_above(uint32_t row, int flags, int least)
 	if (make_pipe(row, end) < 0)
 		return -1;
 	int fd = real_fcntl(end[1], F_DUPFD_CLOEXEC, (void *)(uintptr_t)(unsigned)least);
+	int lower = end[0] < end[1] ? end[0] : end[1], upper = end[0] < end[1] ? end[1] : end[0];
+	int taken = lower >= least ? lower : upper >= least ? upper : INT_MAX;
+	if (fd < 0 ? errno == EMFILE && taken < INT_MAX : taken < fd) {
+		if (fd >= 0)
+			(void)syscall(SYS_close, fd);
+		return settle_pipe(end, taken, row, flags);
+	}
 	close_pipe(end);
 	if (fd >= LIBDOOR_DESCRIPTORS) {
 		(void)syscall(SYS_close, fd);

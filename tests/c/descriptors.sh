@@ -49,6 +49,17 @@ case_closed_by_another_thread() {
     gives_sorted 'done' 'done' 'echo ready: ready' 'hold go y: y'
 }
 
+# by seeds; in the end the kernel has nothing left, so what is opened there has the number 0
+case_shuffled_descriptors() {
+    for seed in 1 2 3; do
+        run 'empty() { sed "1,/echo last/d" "$HISTORY" | grep -q "shuffle_1 open w_[0-9]* = ok fd 0\$"; }
+            up serve w x; doorwait x; shuffle '$seed' 400 & pid=$!; looks=0
+            until empty || ! kill -0 $pid || [ $looks -eq 1500 ]; do looks=$((looks + 1)); sleep 0.02; done
+            empty && echo empty; touch go; wait $pid'
+        gives empty 'done'
+    done
+}
+
 # one that was closed, and whose number in the kernel is another's, is none
 case_numbers_of_others() {
     run 'numbers' -b 'hostile=2,1,0'
