@@ -1,7 +1,8 @@
 /*
- * shuffle SEED STEPS: descriptors of two doors, w and x, and of a file are opened, copied, passed and closed as a seed says, also past the
- * library. A table of what each number is to be is compared with what is told of it after each step. In the end all are closed, and `w` is
- * opened and closed until the file `go` is there, so that the history shows that the kernel has nothing left.
+ * shuffle SEED STEPS: descriptors of two doors, w and x, and of a file are opened, copied, passed and closed as a seed
+ * says, also past the library, and in forked children. A table of what each number is to be is compared with what is told
+ * of it after each step. In the end all are closed, and `w` is opened and closed until the file `go` is there, so that the
+ * history shows that the kernel has nothing left.
  */
 #define _GNU_SOURCE 1
 #include "test.h"
@@ -9,7 +10,7 @@
 #include <linux/close_range.h>
 #include <sys/syscall.h>
 
-enum { FIRST = 3, NUMBERS = 24 };
+enum { FIRST = 3, NUMBERS = 24, FORKS = 3 };
 
 enum kind { CLOSED, PLAIN, DOOR_W, DOOR_X };
 
@@ -168,6 +169,37 @@ static int covers(int number)
 	return is_right;
 }
 
+static int all_fit(void)
+{
+	int number;
+
+	for (number = FIRST; number < NUMBERS; number++)
+		if (!fits(number))
+			return 0;
+	return 1;
+}
+
+static int step(int what);
+
+/* What a child does with its own is nothing to its parent. */
+static int forks(void)
+{
+	static int forked;
+	int i, is_right = 1;
+	pid_t child;
+
+	if (++forked > FORKS)
+		return 1;
+	child = fork();
+	if (child != 0)
+		return child != -1 && end_of(child) == 0;
+	forked = FORKS;
+	is_right = all_fit();
+	for (i = 0; i < 30 && is_right; i++)
+		is_right = step(some(12)) && all_fit();
+	_exit(is_right ? 0 : 1);
+}
+
 static int step(int what)
 {
 	int number = FIRST + some(NUMBERS - 2 - FIRST), other = FIRST + some(NUMBERS - 2 - FIRST);
@@ -189,7 +221,7 @@ static int step(int what)
 	case 9:
 		return passes(number, other);
 	case 10:
-		return some(3) == 0 ? covers(number) : 1;
+		return some(3) == 0 ? covers(number) : some(4) == 0 ? forks() : 1;
 	default:
 		return calls(number);
 	}
@@ -206,7 +238,7 @@ static unsigned long long id_of(const char *path)
 
 int main(int argc, char **argv)
 {
-	int i, number, steps = argc > 2 ? atoi(argv[2]) : 1000, seed = argc > 1 ? atoi(argv[1]) : 1;
+	int i, steps = argc > 2 ? atoi(argv[2]) : 1000, seed = argc > 1 ? atoi(argv[1]) : 1;
 	char answer[32];
 
 	closefrom(FIRST);
@@ -215,14 +247,12 @@ int main(int argc, char **argv)
 	id_of_w = id_of("w");
 	id_of_x = id_of("x");
 	for (i = 0; i < steps; i++) {
-		int what = some(12), is_right = step(what);
+		int what = some(12);
 
-		for (number = FIRST; number < NUMBERS && is_right; number++)
-			is_right = fits(number);
-		if (!is_right) {
-			say("seed %d, step %d, a %d, at number %d: %s", seed, i, what, number - 1, error_name(errno));
-			return 1;
-		}
+		if (step(what) && all_fit())
+			continue;
+		say("seed %d, step %d, a %d: %s", seed, i, what, error_name(errno));
+		return 1;
 	}
 	closefrom(FIRST);
 	check(ask(open("w", O_RDWR), "echo last", answer, sizeof(answer)) == 0 && close(FIRST) == 0);

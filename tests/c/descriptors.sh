@@ -55,7 +55,7 @@ case_shuffled_descriptors() {
         run 'empty() { sed "1,/echo last/d" "$HISTORY" | grep -q "shuffle_1 open w_[0-9]* = ok fd 0\$"; }
             up serve w x; doorwait x; shuffle '$seed' 400 & pid=$!; looks=0
             until empty || ! kill -0 $pid || [ $looks -eq 1500 ]; do looks=$((looks + 1)); sleep 0.02; done
-            empty && echo empty; touch go; wait $pid'
+            empty && echo empty; touch go; wait $pid' -b 'shuffle=1,0,3'
         gives empty 'done'
     done
 }
