@@ -293,7 +293,7 @@ build
 [ -n "$picked" ] || picked=$(list)
 
 # those that no doord runs, or that measure
-once="headers scribbles fuzz"
+once="headers scribbles fuzz thread_sanitizer"
 
 keep() {
     [ -n "${KEEP-}" ] || return 0

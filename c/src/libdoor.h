@@ -247,6 +247,7 @@ bool is_stand_in_found(int fd, const struct stat *found);
 void tell_dead(const struct stand_in *it);
 void name_descriptor(struct wire_request *request, const struct stand_in *it);
 void set_flags(int fd, int which, int flags);
+int new_pipe(int *end);
 void close_pipe(const int *end);
 int new_stand_in(uint32_t row, int flags);
 int new_stand_in_at(uint32_t row, int flags, int fd, int *end);

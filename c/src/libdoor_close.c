@@ -159,7 +159,7 @@ static int copy_door_to(int from, int to, int closes)
 	uint32_t row;
 	int end[2];
 
-	if (pipe2(end, O_CLOEXEC) < 0)
+	if (new_pipe(end) < 0)
 		return -1;
 	bool was_door = is_stand_in_here(to) && close_in_kernel(to);
 	if (copy_in_kernel(&it, &row) == 0)

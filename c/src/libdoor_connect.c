@@ -30,9 +30,9 @@ static struct {
 /* The environment is read before a program that clears it can do so. */
 __attribute__((constructor)) static void remember_socket(void)
 {
-	const char *path = getenv(WIRE_SOCKET);
+	const char *path = own.is_remembered ? NULL : getenv(WIRE_SOCKET);
 
-	if (!own.is_remembered && path && strlen(path) < sizeof own.socket)
+	if (path && strlen(path) < sizeof own.socket)
 		memcpy(own.socket, path, strlen(path) + 1);
 	own.is_remembered = true;
 }

@@ -167,6 +167,12 @@ int next_stand_in(int from)
 
 /* making them */
 
+/* By the bare system call, as it is closed: what watches descriptors in the program then sees neither. */
+int new_pipe(int *end)
+{
+	return (int)syscall(SYS_pipe2, end, O_CLOEXEC);
+}
+
 void close_pipe(const int *end)
 {
 	int error = errno;
@@ -181,7 +187,7 @@ static int make_pipe(uint32_t row, int *end)
 {
 	struct wire_message message = { .kind = WIRE_STAND_IN, .a = row };
 
-	if (pipe2(end, O_CLOEXEC) < 0)
+	if (new_pipe(end) < 0)
 		return -1;
 	if (send_message(&message, end, 1) < 0) {
 		close_pipe(end);
@@ -284,7 +290,7 @@ void renew_stand_ins(bool have_rows)
 	for (int fd = next_stand_in(0); fd >= 0; fd = next_stand_in(fd + 1)) {
 		struct stand_in it = take_stand_in(fd);
 		int end[2];
-		if ((it.row == WIRE_NO_FD && !it.is_dead) || pipe2(end, O_CLOEXEC) < 0)
+		if ((it.row == WIRE_NO_FD && !it.is_dead) || new_pipe(end) < 0)
 			continue;
 		if (have_rows && !it.is_dead)
 			(void)new_stand_in_at(it.row, it.flags, fd, end);

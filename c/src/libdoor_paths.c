@@ -31,11 +31,12 @@ static const struct wire_table no_table;
 /* The environment is read before a program that clears it can do so. */
 __attribute__((constructor)) static void remember_table(void)
 {
-	const char *path = getenv(WIRE_TABLE);
+	const char *path = own.is_remembered ? NULL : getenv(WIRE_TABLE);
 
-	if (!own.is_remembered && path && strlen(path) < sizeof own.path)
+	if (path && strlen(path) < sizeof own.path)
 		memcpy(own.path, path, strlen(path) + 1);
-	own.is_remembered = true;
+	if (!own.is_remembered)
+		own.is_remembered = true;
 }
 
 static const struct wire_table *map_table(void)

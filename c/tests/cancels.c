@@ -19,7 +19,8 @@
 static pthread_mutex_t mutex = PTHREAD_MUTEX_INITIALIZER;
 static pthread_cond_t condition = PTHREAD_COND_INITIALIZER;
 static pthread_key_t key;
-static int door, hanging;
+static _Atomic int door;
+static int hanging;
 static _Thread_local char name[16];
 
 static void clean_up(void *unused)

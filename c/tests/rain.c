@@ -26,17 +26,18 @@ static void count_and_ask(int number)
 {
 	static _Thread_local unsigned times;
 	char answer[64];
-	int other, error;
+	int other, error, before = errno;
 
 	count(number);
 	if (++times % 16 != 0)
 		return;
 	other = open("w", O_RDWR);
-	if (other == -1)
-		return;
-	error = ask(other, "echo handler", answer, sizeof(answer));
-	check(error == EINTR || error == EAGAIN || (error == 0 && strcmp(answer, "handler") == 0));
-	check(close(other) == 0);
+	if (other != -1) {
+		error = ask(other, "echo handler", answer, sizeof(answer));
+		check(error == EINTR || error == EAGAIN || (error == 0 && strcmp(answer, "handler") == 0));
+		check(close(other) == 0);
+	}
+	errno = before;
 }
 
 static void handle(int number, void (*handler)(int), int flags)

@@ -39,7 +39,7 @@ static void every(int milliseconds)
 static void count(int number)
 {
 	(void)number;
-	handled++;
+	__atomic_fetch_add(&handled, 1, __ATOMIC_RELAXED);
 }
 
 static void call_again(int number)
