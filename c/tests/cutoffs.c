@@ -349,6 +349,31 @@ static void forks(void)
 	check(end_of(child) == -SIGKILL);
 }
 
+/* Good requests by all slots, for as long as doord answers: that is until the history has its last event. */
+static void events(void)
+{
+	struct raw raw;
+	struct pollfd end;
+	unsigned i;
+
+	welcome(&raw);
+	end.fd = raw.control;
+	end.events = 0;
+	while (poll(&end, 1, 0) == 0) {
+		for (i = 0; i < WIRE_SLOTS; i++) {
+			struct wire_slot *slot = &raw.area->slot[i];
+
+			if (atomic_load(&slot->turn) == WIRE_ASKED)
+				continue;
+			slot->request.op = KERNEL_OP_INFO;
+			slot->request.number++;
+			atomic_store(&slot->turn, WIRE_ASKED);
+			atomic_fetch_or(&raw.area->asked[i / 64], 1ull << i % 64);
+		}
+		ring(&raw);
+	}
+}
+
 /* So many connections that say nothing, as many of them at once as a process may have. */
 static void knocks(void)
 {
@@ -379,7 +404,7 @@ int main(int argc, char **argv)
 	} ways[] = {
 		{ "dies", dies }, { "stops", stops }, { "twice", twice }, { "interrupts", interrupts }, { "longer", longer }, { "knocks", knocks },
 		{ "doubles", doubles }, { "lingers", lingers },
-		{ "forks", forks },
+		{ "forks", forks }, { "events", events },
 	};
 	size_t i;
 

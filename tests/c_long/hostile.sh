@@ -20,6 +20,20 @@ case_attacks_again_and_again() {
     done
 }
 
+# a flood of good requests, by one program, ends the history for all: that is said; until then others are served
+case_flood_of_events() {
+    start 'up serve w; doorwait w; ask w "echo x"; cutoffs events & ask -n 100 w "echo y"; wait'
+    wait "$running"
+    status=$?
+    ends 122
+    says_like 'doord: .*1,000,000|libdoor: doord is gone' 4
+    head -n 2 "$work/out" >"$work/sorted"
+    cp "$work/sorted" "$work/out"
+    gives 'echo x: x' '100 ok'
+    "$DOORLAB" history "$work/history" >"$work/verdict" 2>&1
+    [ "$(cat "$work/verdict")" = "legal 1000000" ] || wrong "the history" "legal 1000000" "$(cat "$work/verdict")"
+}
+
 # a search by libFuzzer, which comes with clang, for what ends doord; what it keeps are inputs by which it came somewhere new, and their
 # histories are legal, too
 case_fuzz() {
