@@ -9,7 +9,7 @@
 #include <netinet/in.h>
 #include <sys/resource.h>
 
-enum { KNOCKS = 10000, INTERRUPTS = 2000, MANY_FILES = 253 };
+enum { KNOCKS = 10000, INTERRUPTS = 2000, MANY_FILES = 253, EXECS = 200 };
 
 /* Whether doord has hung up. */
 static int is_cut_off(int control)
@@ -349,6 +349,27 @@ static void forks(void)
 	check(end_of(child) == -SIGKILL);
 }
 
+/* exec(2) again and again, where the program before left its connection open: the next one is another program, and that one is over. */
+static void execs(void)
+{
+	const char *left = getenv("EXECS");
+	long more = left == NULL ? EXECS : strtol(left, NULL, 10);
+	struct raw raw;
+	char number[32];
+
+	welcome(&raw);
+	check(fcntl(raw.control, F_SETFD, 0) == 0 && fcntl(raw.bell, F_SETFD, 0) == 0 && fcntl(raw.memory, F_SETFD, 0) == 0);
+	if (more == 0)
+		return;
+	/* a request that nobody waits for any more */
+	request_of(&raw, 0)->op = KERNEL_OP_INFO;
+	asked(&raw, 0, 0);
+	snprintf(number, sizeof(number), "%ld", more - 1);
+	setenv("EXECS", number, 1);
+	execl("/proc/self/exe", "cutoffs", "execs", NULL);
+	give_up("exec");
+}
+
 /* Good requests by all slots, for as long as doord answers: that is until the history has its last event. */
 static void events(void)
 {
@@ -404,7 +425,7 @@ int main(int argc, char **argv)
 	} ways[] = {
 		{ "dies", dies }, { "stops", stops }, { "twice", twice }, { "interrupts", interrupts }, { "longer", longer }, { "knocks", knocks },
 		{ "doubles", doubles }, { "lingers", lingers },
-		{ "forks", forks }, { "events", events },
+		{ "forks", forks }, { "events", events }, { "execs", execs },
 	};
 	size_t i;
 

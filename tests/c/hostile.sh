@@ -136,6 +136,10 @@ case_cutoffs_lingers() {
     cutoffs lingers .
 }
 
+case_cutoffs_execs() {
+    cutoffs execs .
+}
+
 case_cutoffs_knocks() {
     cutoffs knocks knocked
 }
