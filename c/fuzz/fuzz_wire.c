@@ -76,10 +76,10 @@ static uint32_t some_word(void)
 	}
 }
 
-/* Some bytes of it are others. */
+/* Some bytes of it are others, now and then: what is always refused comes nowhere. */
 static void patch(void *bytes, size_t size)
 {
-	for (uint32_t n = some(PATCHES); n > 0; n--) {
+	for (uint32_t n = some(4) == 3 ? some(PATCHES) : 0; n > 0; n--) {
 		size_t at = (some(256) << 8 | some(256)) % size;
 		((uint8_t *)bytes)[at] = (uint8_t)some(256);
 	}
@@ -178,6 +178,13 @@ static void send_some_message(int program, uint32_t kind)
 	send_packet(program, message, size, file, files);
 }
 
+static void say_hello(int program)
+{
+	struct wire_message message = { .kind = WIRE_HELLO, .version = WIRE_VERSION, .name = "a" };
+
+	send_packet(program, &message, sizeof message, NULL, 0);
+}
+
 /* A stand-in, or the files of the slot's next request, as they should be. */
 static void send_good_message(int program, uint32_t kind, uint32_t slot, uint32_t number)
 {
@@ -187,15 +194,25 @@ static void send_good_message(int program, uint32_t kind, uint32_t slot, uint32_
 	send_packet(program, &message, sizeof message, file + (kind == WIRE_FILES), 1);
 }
 
+static uint32_t some_op(void)
+{
+	static const uint32_t often[] = { KERNEL_OP_CALL, KERNEL_OP_CALL, KERNEL_OP_CALL, KERNEL_OP_CALL, KERNEL_OP_RETURN, KERNEL_OP_RETURN,
+		KERNEL_OP_CREATE, KERNEL_OP_CREATE, KERNEL_OP_ATTACH, KERNEL_OP_OPEN, KERNEL_OP_FORK, WIRE_WAIT, WIRE_LEAVE };
+	const uint32_t count = sizeof often / sizeof *often;
+	uint32_t which = some(20);
+
+	return which < count ? often[which] : which == count ? some_word() : 1 + some(70);
+}
+
 static void fill_request(int program, uint32_t index, struct wire_request *request)
 {
 	static const char *const texts[] = { "square", "/a/path", "p2", "\"\\\n", "" };
 	const char *text = texts[some(5)];
 
-	request->op = some(8) == 0 ? some_word() : some(2) ? 1 + some(70) : some(2) ? KERNEL_OP_CALL : some(2) ? KERNEL_OP_RETURN : KERNEL_OP_CREATE;
-	request->flags = some(4) == 0 ? WIRE_KEEPER : 0;
-	request->a = some(4) == 0 ? some_word() : some(4);
-	request->b = some(4) == 0 ? some_word() : some(4);
+	request->op = some_op();
+	request->flags = some(8) == 7 ? WIRE_KEEPER : 0;
+	request->a = some(8) == 7 ? some_word() : some(2);
+	request->b = some(8) == 7 ? some_word() : some(4);
 	request->c = request->op == KERNEL_OP_CREATE ? some_word() : 64;
 	request->data_size = (uint32_t)strlen(text);
 	memcpy(request->data, text, strlen(text));
@@ -224,13 +241,13 @@ static void put_request(int program)
 		return;
 	struct wire_slot *slot = &area->slot[index];
 	uint32_t turn = atomic_load(&slot->turn), number = slot->request.number + 1;
-	if (turn != WIRE_MINE && turn != WIRE_TOLD && some(4) != 0)
+	if ((turn == WIRE_ASKED || turn == WIRE_ASLEEP) && some(4) != 0)
 		return;
 	memset(&slot->request, 0, offsetof(struct wire_request, data));
 	slot->request.number = number;
 	fill_request(program, index, &slot->request);
 	patch(&slot->request, offsetof(struct wire_request, data) + 8);
-	atomic_store(&slot->turn, some(4) == 0 ? some(6) : WIRE_ASKED);
+	atomic_store(&slot->turn, some(16) == 15 ? some(6) : WIRE_ASKED);
 	atomic_fetch_or(&area->asked[index / 64], 1ull << index % 64);
 	(void)eventfd_write(fuzz.client[program]->bell, 1);
 }
@@ -304,21 +321,25 @@ static void take_step(void)
 	int program = (int)some(PROGRAMS);
 	uint32_t step = some(16);
 
-	if (fuzz.control[program] < 0)
+	if (fuzz.control[program] < 0 || !is_here(program)) {
 		enter_connection(program);
-	if (step < 6)
+		if (some(8) != 7)
+			say_hello(program);
+		go_round();
+	}
+	if (step < 7)
 		put_request(program);
-	else if (step == 6)
+	else if (step == 15)
 		interrupt_some(program);
-	else if (step == 7)
+	else if (step == 7 && some(8) == 7)
 		send_some_message(program, WIRE_HELLO);
-	else if (step == 8)
+	else if (step == 8 && some(4) == 3)
 		send_some_message(program, 1 + some(6));
 	else if (step == 9)
 		send_good_message(program, WIRE_STAND_IN, some(4), 0);
 	else if (step == 10)
 		lose_stand_in(program);
-	else if (step == 11 && some(4) == 0)
+	else if (step == 11 && some(16) == 15)
 		leave_connection(program);
 	else if (step == 12)
 		read_messages(program);
