@@ -39,9 +39,20 @@ EXPORT int remove(const char *path)
 	return is_busy(AT_FDCWD, path) ? -1 : real_remove(path);
 }
 
+/* Where there is nothing to rename, the system says so. */
+static bool is_missing(int directory, const char *path)
+{
+	struct stat found;
+	int error = errno;
+	bool is_there = real_fstatat(directory, path, &found, AT_SYMLINK_NOFOLLOW) == 0;
+
+	errno = error;
+	return !is_there;
+}
+
 static bool are_busy(int from_directory, const char *from, int to_directory, const char *to)
 {
-	return is_busy(from_directory, from) || is_busy(to_directory, to);
+	return is_busy(from_directory, from) || (is_busy(to_directory, to) && !is_missing(from_directory, from));
 }
 
 EXPORT int renameat(int from_directory, const char *from, int to_directory, const char *to)

@@ -63,6 +63,14 @@ case_servers_one_after_the_other() {
     gives new 'echo d: EBADF' 'echo e: e' 'detach hard: ok' 'detach hard: EINVAL' 'detach w: ok' new
 }
 
+# by seeds
+case_shuffled_attachments() {
+    for seed in 3 5 6; do
+        run "attachments $seed 150"
+        gives 'done'
+    done
+}
+
 case_doorwait() {
     run 'doorwait w & waits=$!; doorwait ./w & again=$!; doorwait link & link=$!; sleep 0.2; up serve w; wait $waits; echo $?
         wait $again; echo $?; doorwait "$PWD/w"; echo $?
