@@ -101,6 +101,12 @@ struct place {
 	bool is_unserved_told;   /* that calls wait and nobody can serve them was said */
 	struct object *row[DOORD_ROWS];
 	unsigned rows;
+	/*
+	 * Of a child that has not sent its own pipes yet: those that stood for its descriptors in its parent when the
+	 * kernel forked, 0 where one had not come. Until the system forks, too, the parent's other threads go on.
+	 */
+	bool is_renewing;
+	uint32_t inherited[DOORD_ROWS];
 };
 
 /* Files that came by a control socket, for a request that is still to come. */
@@ -339,6 +345,9 @@ void ask_fork(struct slot *slot, int member);
 void fork_failed(struct slot *slot);
 void forked(const struct client *parent, uint32_t token, pid_t pid);
 int place_of_token(uint32_t token);
+bool is_inherited(const struct client *child, uint32_t row, uint32_t pipe);
+void pipe_came(int parent, uint32_t row, uint32_t pipe);
+void renewed(struct client *child);
 void orphan_children(int parent);
 int time_for_orphans(void);
 void end_orphans(void);

@@ -198,11 +198,12 @@ static bool is_pipe(int file, uint32_t *number)
 	return true;
 }
 
-static void take_stand_in(struct client *client, uint32_t row, int end)
+static void take_stand_in(struct client *client, uint32_t row, uint32_t before, int end)
 {
 	uint32_t number;
+	bool is_there = row < DOORD_ROWS && client->stand_in && doord.place[client->place].row[row];
 
-	if (row >= DOORD_ROWS || !client->stand_in || !doord.place[client->place].row[row]) {
+	if (!is_there || !is_inherited(client, row, before)) {
 		close_file(end);
 		return;
 	}
@@ -211,6 +212,7 @@ static void take_stand_in(struct client *client, uint32_t row, int end)
 	if (is_pipe(end, &number) && watch(end, &client->stand_in[row].watch, 0)) {
 		client->stand_in[row].end = end;
 		client->stand_in[row].pipe = number;
+		pipe_came(client->place, row, number);
 		return;
 	}
 	/* a thread of the program closed what was not its own, perhaps */
@@ -375,7 +377,7 @@ static void take_hello(struct client *client, const struct wire_message *hello)
 /* Who has not said hello says nothing else, and libdoor says nothing but these. */
 static bool is_in_place(const struct client *client, uint32_t kind)
 {
-	return kind == WIRE_HELLO || (client->place != 0 && (kind == WIRE_STAND_IN || kind == WIRE_FILES || kind == WIRE_FORKED));
+	return kind == WIRE_HELLO || (client->place != 0 && (kind == WIRE_STAND_IN || kind == WIRE_FILES || kind == WIRE_FORKED || kind == WIRE_RENEWED));
 }
 
 static void take_message(struct client *client, const struct wire_message *message, const int *file, unsigned files, bool is_short)
@@ -392,7 +394,7 @@ static void take_message(struct client *client, const struct wire_message *messa
 		break;
 	case WIRE_STAND_IN:
 		if (files == 1)
-			take_stand_in(client, message->a, file[0]);
+			take_stand_in(client, message->a, message->b, file[0]);
 		else if (is_short)
 			miss_stand_in(client, message->a);
 		else
@@ -404,6 +406,10 @@ static void take_message(struct client *client, const struct wire_message *messa
 	case WIRE_FORKED:
 		close_files(file, files);
 		forked(client, message->a, (pid_t)message->b);
+		break;
+	case WIRE_RENEWED:
+		close_files(file, files);
+		renewed(client);
 		break;
 	}
 }

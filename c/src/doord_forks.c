@@ -43,6 +43,46 @@ static void bind_first(int child)
 	doord.member[doord.place[child].first].bound = none;
 }
 
+static void note_inherited(struct place *child, const struct client *parent)
+{
+	child->is_renewing = true;
+	for (unsigned row = 0; row < DOORD_ROWS; row++)
+		child->inherited[row] = parent->stand_in[row].end >= 0 ? parent->stand_in[row].pipe : 0;
+}
+
+/* One of a parent that was still on its way when the kernel forked. */
+void pipe_came(int parent, uint32_t row, uint32_t pipe)
+{
+	for (int i = 2; i <= doord.places; i++) {
+		struct place *child = &doord.place[i];
+		bool is_same = child->row[row] && child->row[row] == doord.place[parent].row[row];
+		if (child->is_renewing && child->parent == parent && is_same && child->inherited[row] == 0)
+			child->inherited[row] = pipe;
+	}
+}
+
+/* Whether what stood for the descriptor in the child's parent is this pipe; else it is another one's, made since. */
+bool is_inherited(const struct client *child, uint32_t row, uint32_t pipe)
+{
+	const struct place *place = &doord.place[child->place];
+
+	return !place->is_renewing || place->inherited[row] == 0 || place->inherited[row] == pipe;
+}
+
+/* The child has no other pipes: what its parent closed meanwhile is closed here, too. */
+void renewed(struct client *child)
+{
+	struct place *place = &doord.place[child->place];
+
+	if (!place->is_renewing)
+		return;
+	place->is_renewing = false;
+	for (unsigned row = 0; row < DOORD_ROWS; row++)
+		if (place->row[row] && child->stand_in[row].end < 0 && !child->stand_in[row].is_missed)
+			close_row(place->keeper, row);
+	settle();
+}
+
 void ask_fork(struct slot *slot, int number)
 {
 	struct member *member = &doord.member[number];
@@ -69,6 +109,7 @@ void ask_fork(struct slot *slot, int number)
 	adopt_child(child, member->place);
 	if (member->bound)
 		bind_first(child);
+	note_inherited(&doord.place[child], slot->client);
 	make_token(child);
 	begin_reply(slot, KERNEL_ANSWER_CHILD)->a = doord.place[child].token;
 }

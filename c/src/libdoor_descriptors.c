@@ -182,18 +182,21 @@ void close_pipe(const int *end)
 	errno = error;
 }
 
+/* The reading end goes to doord, in place of the pipe of this number, or of none. Where that fails both are closed. */
+static int send_end(const int *end, uint32_t row, uint32_t before)
+{
+	struct wire_message message = { .kind = WIRE_STAND_IN, .a = row, .b = before };
+
+	if (send_message(&message, end, 1) == 0)
+		return 0;
+	close_pipe(end);
+	return -1;
+}
+
 /* A pipe whose reading end goes to doord. Both ends are still here. */
 static int make_pipe(uint32_t row, int *end)
 {
-	struct wire_message message = { .kind = WIRE_STAND_IN, .a = row };
-
-	if (new_pipe(end) < 0)
-		return -1;
-	if (send_message(&message, end, 1) < 0) {
-		close_pipe(end);
-		return -1;
-	}
-	return 0;
+	return new_pipe(end) < 0 ? -1 : send_end(end, row, 0);
 }
 
 /* Moves the writing end to the number `fd`, whatever that was; the reading end goes. */
@@ -226,13 +229,7 @@ int new_stand_in(uint32_t row, int flags)
 /* At this number, by a pipe that is there: it is closed where that fails. */
 int new_stand_in_at(uint32_t row, int flags, int fd, int *end)
 {
-	struct wire_message message = { .kind = WIRE_STAND_IN, .a = row };
-
-	if (send_message(&message, end, 1) < 0) {
-		close_pipe(end);
-		return -1;
-	}
-	return settle_pipe(end, fd, row, flags);
+	return send_end(end, row, 0) < 0 ? -1 : settle_pipe(end, fd, row, flags);
 }
 
 /* At the lowest number from `least` on, which may be one that the pipe has taken. */
@@ -279,11 +276,12 @@ static void end_stand_in(int fd, const struct stand_in *it, const int *end)
 }
 
 /*
- * In a forked child: each is changed for one of its own, since those that it has are the parent's. Where it has no rows they stand for
- * nothing, but their numbers stay taken.
+ * In a forked child: each is changed for one of its own, since those that it has are the parent's. Where it has no rows
+ * they stand for nothing, but their numbers stay taken.
  */
 void renew_stand_ins(bool have_rows)
 {
+	const struct wire_message all = { .kind = WIRE_RENEWED };
 	struct rlimit limit;
 	bool is_low = allow_all(&limit);
 
@@ -292,11 +290,13 @@ void renew_stand_ins(bool have_rows)
 		int end[2];
 		if ((it.row == WIRE_NO_FD && !it.is_dead) || new_pipe(end) < 0)
 			continue;
-		if (have_rows && !it.is_dead)
-			(void)new_stand_in_at(it.row, it.flags, fd, end);
-		else
+		if (!have_rows || it.is_dead)
 			end_stand_in(fd, &it, end);
+		else if (send_end(end, it.row, it.pipe) == 0)
+			(void)settle_pipe(end, fd, it.row, it.flags);
 	}
 	if (is_low)
 		(void)setrlimit(RLIMIT_NOFILE, &limit);
+	if (have_rows)
+		(void)send_message(&all, NULL, 0);
 }

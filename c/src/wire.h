@@ -13,7 +13,7 @@
 #include <stdint.h>
 
 enum {
-	WIRE_VERSION = 1,
+	WIRE_VERSION = 2,
 	WIRE_SLOTS = 128,
 	WIRE_SLOT_WORDS = WIRE_SLOTS / 64,
 	WIRE_DATA = 8192,  /* the most bytes of a request: a path's text, or a message as far as the kernel looks at it */
@@ -158,9 +158,11 @@ struct wire_table {
 enum {
 	WIRE_HELLO = 1, /* program: it comes. Answered by WIRE_WELCOME, with the area and the bell */
 	WIRE_WELCOME,   /* doord: error 0, or why not; a the most bytes of a message, 0 for those of the kernel */
-	WIRE_STAND_IN,  /* program: with the reading end of a pipe, whose writing end stands for descriptor a */
+	WIRE_STAND_IN,  /* program: with the reading end of a pipe, whose writing end stands for descriptor a; b: in a forked
+	                   child the number of the parent's pipe that it stands in for */
 	WIRE_FILES,     /* both: with the files of slot a, number b */
 	WIRE_FORKED,    /* program: token a has pid b */
+	WIRE_RENEWED,   /* program: a forked child has sent a pipe for each descriptor that it has */
 };
 
 struct wire_message {

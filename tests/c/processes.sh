@@ -45,6 +45,12 @@ case_first_requests() {
     may_say 'doord: firsts.*-b firsts='
 }
 
+# what is made and closed between the kernel's fork and the system's
+case_doors_while_it_forks() {
+    run between -b 'between=2,3,1'
+    gives 'done'
+}
+
 case_exec() {
     run 'up serve w; doorwait w; becomes ask w "echo x" "pid" | sed "s/pid: [0-9]*/pid: N/"'
     gives 'echo x: x' 'pid: N'
