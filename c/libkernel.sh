@@ -2,7 +2,7 @@
 # Makes crates/kernel_c/out/libkernel_c.a, the kernel for C, out of proved code.
 #
 # `rt ci` proves every crate from nothing, and leaves the libraries that other crates use in crates/*/out/rlib, but it need not leave a
-# library for C. Over those libraries kernel_c alone is proved once more here (a few minutes) and compiled; where it is not proved,
+# library for C. Over those libraries kernel_c alone is proved once more here (a minute) and compiled; where it is not proved,
 # nothing is made. Nothing is done where the library is there and no source of a crate that it stands on is newer. JOBS is how many
 # processes prove at once.
 #
@@ -91,7 +91,7 @@ set -- "$@" --jobs "$jobs" --toolchain "$kit/toolchain" -o "out/lib$crate.a"
 mkdir -p "$out"
 said=$out/lib$crate.log
 : >"$out/start"
-echo "libkernel.sh: proving $crate over the libraries that are there, and compiling it: a few minutes"
+echo "libkernel.sh: proving $crate over the libraries that are there, and compiling it: a minute"
 status=0
 (cd "crates/$crate" && exec "$kit/bin/rattle" "$@") >"$said" 2>&1 </dev/null || status=$?
 if [ $status -ne 0 ]; then
