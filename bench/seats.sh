@@ -23,7 +23,7 @@ build() {
         mkdir -p "$copy/crates/seat_bench/$(dirname "$file")"
         cp "$top/bench/seats/$file" "$copy/crates/seat_bench/${file%.txt}"
     done
-    echo 'seat_bench: dk_base written_kernel kernel_core seat_api' >>"$copy/crates.txt"
+    echo 'seat_bench: dk_base spec_kernel kernel_core seat_api' >>"$copy/crates.txt"
     (cd "$copy" && git init -q && cd crates/seat_bench && rt run -- 1 >"$folder/built")
     seats=$copy/crates/seat_bench/out/seat_bench
 }

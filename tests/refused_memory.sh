@@ -202,7 +202,7 @@ seat_test() {
     REFUSED_CALL=$1 REFUSED_COUNT=$work/count timeout 60 env LD_PRELOAD="$work/refuse.so" "$seats" "tests::$2" >"$work/out" 2>"$work/err"
 }
 
-seats=$top/crates/seat_api_tests/out/seat_api_tests_tests
+seats=$top/crates/test_seats/out/test_seats_tests
 if [ -x "$seats" ]; then
     : >"$work/count"
     seat_test 0 goes_on_after_want_of_memory || fail seats "with none refused"

@@ -1,7 +1,7 @@
 //! Passed descriptors out of a table, and what comes with them into one.
 ghost use Rattle.std.specs.Prelude.{◌≡◌, ◌+◌, ◌<◌, ◌≤◌, ◌++◌, false, true, length, IfErr, OnErr, OnOk};
 ghost use Rattle.std.specs.List.{list_any};
-ghost use Rattle.kernel_records.specs.Words.{free_rows, has_double_release, insert_rows, is_bad_pass, is_double, is_not_open, new_descriptors, object_passed, objects_passed, release_row, release_rows};
+ghost use Rattle.spec_records.specs.Words.{free_rows, has_double_release, insert_rows, is_bad_pass, is_double, is_not_open, new_descriptors, object_passed, objects_passed, release_row, release_rows};
 
 use dk_base::error::Errno;
 use dk_base::list::{ObjList, PassList, Room};

@@ -2,10 +2,10 @@
 use Rattle.std.proofs.lemmas.Bool.Decides.{nat_tests}
 use Rattle.std.proofs.Common.{◌≡◌, ◌<◌, ◌≤◌, ◌+◌, arith, ◌≢◌, ℕ, Bool, true, List, [], ◌∷◌, ◌++◌, Some, None, find, refl, sym, ap, subst, inl, inr}
 use Rattle.std.proofs.lemmas.Bool.{cases_eq}
-use Rattle.kernel_records.specs.declared.record.Call.{Call}
-use Rattle.kernel_records.specs.Words.{IsAscending, call_number}
-use Rattle.kernel_records.proofs.NumberedLists.{ascending-lower, ascending-push}
-use Rattle.call_records.specs.Words.{calls_in, look, with_call, without_key}
+use Rattle.spec_records.specs.declared.record.Call.{Call}
+use Rattle.spec_records.specs.Words.{IsAscending, call_number}
+use Rattle.spec_records.proofs.NumberedLists.{ascending-lower, ascending-push}
+use Rattle.call_tree.specs.Words.{calls_in, look, with_call, without_key}
 use Rattle.call_tree.specs.Index.{AreApart}
 use Rattle.call_tree.proofs.Looks.{test_same, test_other}
 

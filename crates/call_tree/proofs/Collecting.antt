@@ -2,13 +2,13 @@
 use Rattle.std.proofs.Common.{◌≡◌, ◌≢◌, ◌==◌, ◌&&◌, ◌<◌, ℕ, suc, Bool, true, false, inl, inr, List, Option, Some, None, is_some, find, sym, ap, ◌∙◌, arith}
 use Rattle.std.proofs.lemmas.Bool.{cases_eq}
 use Rattle.std.proofs.lemmas.Bool.Decides.{nat_tests}
-use Rattle.kernel_records.specs.declared.record.Call.{Call}
-use Rattle.kernel_records.specs.declared.record.CallStage.{CallStage}
-use Rattle.kernel_records.specs.Words.{is_given_to, is_to_collect}
-use Rattle.shuttle_tokens.specs.Words.{LinksValue, Sets, at}
-use Rattle.call_records.specs.Words.{calls_in, look}
-use Rattle.thread_set.specs.declared.set.ThreadSet.{ThreadSet}
-use Rattle.thread_set.specs.Words.{has, with_thread}
+use Rattle.spec_records.specs.declared.record.Call.{Call}
+use Rattle.spec_records.specs.declared.record.CallStage.{CallStage}
+use Rattle.spec_records.specs.Words.{is_given_to, is_to_collect}
+use Rattle.call_tree.specs.Words.{LinksValue, Sets, at}
+use Rattle.call_tree.specs.Words.{calls_in, look}
+use Rattle.dk_base.specs.declared.thread_set.ThreadSet.{ThreadSet}
+use Rattle.dk_base.specs.Words.{has, with_thread}
 use Rattle.call_tree.specs.Calls.{is_called_by, is_ready_of}
 use Rattle.call_tree.specs.Index.{AreCollecting, IsWhole}
 use Rattle.call_tree.proofs.Indexing.{none_or}

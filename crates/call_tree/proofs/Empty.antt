@@ -1,6 +1,6 @@
 -- Where no call was made.
 use Rattle.std.proofs.Common.{◌≡◌, ℕ, List, [], arith}
-use Rattle.shuttle_tokens.specs.Words.{LinksValue, IsEmpty, at}
+use Rattle.call_tree.specs.Words.{LinksValue, IsEmpty, at}
 use Rattle.call_tree.specs.Index.{IsWhole}
 
 pub whole_empty : (links : LinksValue) (ck sk : List ℕ) → IsEmpty links → ((t : ℕ) → at ck t ≡ 0) → ((t : ℕ) → at sk t ≡ 0) → IsWhole links [] ck sk

@@ -2,10 +2,10 @@
 use Rattle.std.proofs.Common.{◌≡◌, ◌≢◌, ◌⊎◌, zero, ◌≤◌, ℕ, suc, true, false, inl, inr, Option, Some, None, refl, sym, ◌∙◌, arith}
 use Rattle.std.proofs.lemmas.Bool.{cases_eq}
 use Rattle.std.proofs.lemmas.Bool.Decides.{nat_tests}
-use Rattle.kernel_records.specs.declared.record.Call.{Call}
-use Rattle.kernel_records.specs.declared.record.CallStage.TheVariants as stage
-use Rattle.kernel_records.specs.Words.{at_stage, is_served_by, tid}
-use Rattle.shuttle_tokens.specs.Words.{Sets}
+use Rattle.spec_records.specs.declared.record.Call.{Call}
+use Rattle.spec_records.specs.declared.record.CallStage.TheVariants as stage
+use Rattle.spec_records.specs.Words.{at_stage, is_served_by, tid}
+use Rattle.call_tree.specs.Words.{Sets}
 use Rattle.call_tree.specs.Calls.{is_called_by}
 use Rattle.call_tree.specs.Index.{IsSound, Indexed, server_number}
 

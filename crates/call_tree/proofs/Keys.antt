@@ -1,11 +1,11 @@
 -- What a key tells of the calls in their order: a search whose test one call at most can pass.
 use Rattle.std.proofs.lemmas.Bool.Decides.{nat_tests}
 use Rattle.std.proofs.Common.{◌≡◌, ◌&&◌, ℕ, Bool, true, false, List, [], ◌∷◌, Option, Some, None, IsSome, is_some, find, filter, refl, sym, ap, ◌∙◌, arith, subst}
-use Rattle.kernel_records.specs.declared.record.Call.{Call}
-use Rattle.kernel_records.specs.declared.record.CallStage.{CallStage}
-use Rattle.kernel_records.specs.declared.record.CallStage.TheVariants as stage
-use Rattle.kernel_records.specs.Words.{change_first, is_client_call_of, is_given_as, is_live_call, is_queued, is_served_by, without_arguments_at}
-use Rattle.call_records.specs.Words.{IsFound, calls_in, is_call, look, with_call, without_key}
+use Rattle.spec_records.specs.declared.record.Call.{Call}
+use Rattle.spec_records.specs.declared.record.CallStage.{CallStage}
+use Rattle.spec_records.specs.declared.record.CallStage.TheVariants as stage
+use Rattle.spec_records.specs.Words.{change_first, is_client_call_of, is_given_as, is_live_call, is_queued, is_served_by, without_arguments_at}
+use Rattle.call_tree.specs.Words.{IsFound, calls_in, is_call, look, with_call, without_key}
 use Rattle.call_tree.specs.Calls.{is_called_by, is_waiting}
 use Rattle.call_tree.specs.Walks.{argument_objects}
 use Rattle.call_tree.specs.Index.{AreApart, AreSingle, IsSound, is_open, moved_to}

@@ -3,11 +3,11 @@ use Rattle.std.proofs.lemmas.Bool.Decides.{nat_tests}
 use Rattle.std.proofs.Common.{arith, ◌≡◌, ℕ, true, false, List, [], Some, filter, refl, sym}
 use Rattle.dk_base.specs.declared.error.Errno.TheVariants.{EINTR}
 use Rattle.dk_base.specs.declared.object.Obj.{Obj}
-use Rattle.kernel_records.specs.declared.record.Call.{Call}
-use Rattle.kernel_records.specs.declared.record.CallStage.{CallStage}
-use Rattle.kernel_records.specs.declared.record.CallStage.TheVariants as stage
-use Rattle.kernel_records.specs.Words.{Leaving, broken_call_at, gone_call_at, interruption, is_live, is_live_call, left_call, thread_end}
-use Rattle.call_records.specs.Words.{calls_in, look, with_call, without_key}
+use Rattle.spec_records.specs.declared.record.Call.{Call}
+use Rattle.spec_records.specs.declared.record.CallStage.{CallStage}
+use Rattle.spec_records.specs.declared.record.CallStage.TheVariants as stage
+use Rattle.spec_records.specs.Words.{Leaving, broken_call_at, gone_call_at, interruption, is_live, is_live_call, left_call, thread_end}
+use Rattle.call_tree.specs.Words.{calls_in, look, with_call, without_key}
 use Rattle.call_tree.specs.Calls.{dropped_at, held_at, is_waiting}
 use Rattle.call_tree.specs.declared.parts.Leave.TheVariants.{Finished, Interrupted}
 use Rattle.call_tree.specs.Index.{AreSingle, is_entered, is_open, moved_to}

@@ -2,12 +2,12 @@
 use Rattle.std.proofs.lemmas.Bool.Decides.{nat_tests}
 use Rattle.std.proofs.Common.{◌≡◌, ◌<◌, ◌≤◌, ◌==◌, ℕ, Bool, true, false, List, [], ◌∷◌, Some, find, filter, map, if◌then◌else◌, refl, sym, ap, ap₂, ◌∙◌, arith, subst}
 use Rattle.dk_base.specs.declared.error.Errno.TheVariants.{EBADF, EINTR}
-use Rattle.kernel_records.specs.declared.record.Call.{Call}
-use Rattle.kernel_records.specs.declared.record.CallStage.TheVariants as stage
-use Rattle.kernel_records.specs.Words.{CallTree, IsAscending, Leaving, call_number, interruption, is_live, is_live_call, is_queued, is_queued_as, is_served_by, is_to_collect, left_call, thread_end, without_arguments_at}
-use Rattle.kernel_records.proofs.Places.{change_first-none}
-use Rattle.kernel_records.proofs.NumberedLists.{ascending-filter}
-use Rattle.call_records.specs.Words.{is_call}
+use Rattle.spec_records.specs.declared.record.Call.{Call}
+use Rattle.spec_records.specs.declared.record.CallStage.TheVariants as stage
+use Rattle.spec_records.specs.Words.{CallTree, IsAscending, Leaving, call_number, interruption, is_live, is_live_call, is_queued, is_queued_as, is_served_by, is_to_collect, left_call, thread_end, without_arguments_at}
+use Rattle.spec_records.proofs.Places.{change_first-none}
+use Rattle.spec_records.proofs.NumberedLists.{ascending-filter}
+use Rattle.call_tree.specs.Words.{is_call}
 use Rattle.call_tree.specs.Calls.{is_called_by, leaving_for}
 use Rattle.call_tree.specs.LiveCalls.{AreLive}
 use Rattle.call_tree.specs.Parting.{LeftSoFar, PartsOfLeaving, and_one, call_so_far, nothing_left}

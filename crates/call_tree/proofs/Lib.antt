@@ -11,3 +11,11 @@ pub mod LeavingParts
 pub mod Indexing
 pub mod Transit
 pub mod Collecting
+pub mod Finding
+pub mod Keeping
+pub mod Rising
+pub mod Chain
+pub mod Cutting
+pub mod ChainSets
+pub mod EmptyChains
+pub mod Linking

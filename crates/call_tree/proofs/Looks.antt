@@ -2,9 +2,9 @@
 use Rattle.std.proofs.Common.{◌≡◌, ◌≢◌, ◌==◌, ℕ, Bool, true, false, List, [], ◌∷◌, Some, None, find, refl, arith}
 use Rattle.std.proofs.lemmas.Bool.{cases_eq}
 use Rattle.std.proofs.lemmas.Bool.Decides.{nat_tests}
-use Rattle.kernel_records.specs.declared.record.Call.{Call}
-use Rattle.kernel_records.specs.Words.{change_first}
-use Rattle.call_records.specs.Words.{calls_in, look, with_call}
+use Rattle.spec_records.specs.declared.record.Call.{Call}
+use Rattle.spec_records.specs.Words.{change_first}
+use Rattle.call_tree.specs.Words.{calls_in, look, with_call}
 use Rattle.call_tree.specs.Index.{AreApart}
 
 pub test_same : (k : ℕ) → (k == k) ≡ true

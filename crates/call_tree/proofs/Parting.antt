@@ -1,12 +1,12 @@
 -- Calls in a list that are left one at a time.
 use Rattle.std.proofs.lemmas.Bool.Decides.{nat_tests}
 use Rattle.std.proofs.Common.{IsSome, ◌&&◌, ◌==◌, ◌≤◌, ◌≡◌, ◌<◌, ℕ, Bool, true, false, List, [], ◌∷◌, ◌++◌, Some, None, find, filter, map, refl, sym, ap, ap₂, ◌∙◌, arith}
-use Rattle.kernel_records.specs.declared.record.Call.{Call}
-use Rattle.kernel_records.specs.declared.record.CallStage.{CallStage}
-use Rattle.kernel_records.proofs.NumberedLists.{ascending-lower}
-use Rattle.kernel_records.specs.Words.{IsAscending, call_number, change_first, is_live_call}
-use Rattle.kernel_records.proofs.Places.{change_first-none}
-use Rattle.call_records.specs.Words.{is_call}
+use Rattle.spec_records.specs.declared.record.Call.{Call}
+use Rattle.spec_records.specs.declared.record.CallStage.{CallStage}
+use Rattle.spec_records.proofs.NumberedLists.{ascending-lower}
+use Rattle.spec_records.specs.Words.{IsAscending, call_number, change_first, is_live_call}
+use Rattle.spec_records.proofs.Places.{change_first-none}
+use Rattle.call_tree.specs.Words.{is_call}
 use Rattle.call_tree.specs.LiveCalls.{AreLive}
 use Rattle.call_tree.proofs.Looks.{test_same, test_other}
 

@@ -1,10 +1,10 @@
 -- What the keys say of the calls in their order.
 use Rattle.std.proofs.lemmas.Bool.Decides.{nat_tests}
 use Rattle.std.proofs.Common.{arith, ◌≡◌, ℕ, Bool, true, false, List, [], ◌∷◌, Some, find, if◌then◌else◌, refl, sym, ap, ◌∙◌}
-use Rattle.kernel_records.specs.declared.record.Call.{Call}
-use Rattle.kernel_records.specs.declared.record.CallStage.{CallStage}
-use Rattle.kernel_records.specs.Words.{IsAscending, call_number, is_live, is_served_by, is_to_collect}
-use Rattle.call_records.specs.Words.{calls_in, look}
+use Rattle.spec_records.specs.declared.record.Call.{Call}
+use Rattle.spec_records.specs.declared.record.CallStage.{CallStage}
+use Rattle.spec_records.specs.Words.{IsAscending, call_number, is_live, is_served_by, is_to_collect}
+use Rattle.call_tree.specs.Words.{calls_in, look}
 use Rattle.call_tree.specs.Index.{AreApart, AreSingle, is_open}
 use Rattle.call_tree.specs.Sound.{AreSound}
 use Rattle.call_tree.proofs.Keys.{finds, lives, of_caller, of_number, of_server}

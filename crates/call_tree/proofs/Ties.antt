@@ -2,11 +2,11 @@
 use Rattle.std.proofs.Common.{◌≡◌, ◌⊎◌, inl, inr, ◌<◌, ◌==◌, ◌&&◌, ◌||◌, not, ℕ, zero, suc, Bool, true, false, List, Option, Some, None, if◌then◌else◌, refl, sym, ap, ◌∙◌, arith}
 use Rattle.std.specs.Option.{option_map_or}
 use Rattle.std.proofs.lemmas.Bool.Decides.{nat_tests}
-use Rattle.kernel_records.specs.declared.record.Call.{Call}
-use Rattle.kernel_records.specs.declared.record.CallStage.{CallStage}
-use Rattle.kernel_records.specs.Words.{is_served, is_served_by, is_given_to, is_entered_by}
-use Rattle.shuttle_tokens.specs.Words.{LinksValue, at, walk, walk_to}
-use Rattle.call_records.specs.Words.{look, calls_in}
+use Rattle.spec_records.specs.declared.record.Call.{Call}
+use Rattle.spec_records.specs.declared.record.CallStage.{CallStage}
+use Rattle.spec_records.specs.Words.{is_served, is_served_by, is_given_to, is_entered_by}
+use Rattle.call_tree.specs.Words.{LinksValue, at, walk, walk_to}
+use Rattle.call_tree.specs.Words.{look, calls_in}
 use Rattle.call_tree.specs.Index.{IsWhole, server_number, stage_server}
 use Rattle.call_tree.specs.Walks.{caller_among, caller_in, server_among, server_at, server_in, is_served_for, walk_up, walk_down}
 use Rattle.call_tree.proofs.Indexing.{none_or}

@@ -5,9 +5,9 @@ use Rattle.std.proofs.lemmas.List.Sums.{sum_by-append}
 use Rattle.dk_base.specs.declared.error.Errno.{Errno}
 use Rattle.dk_base.specs.declared.error.Errno.TheVariants.{EINTR}
 use Rattle.dk_base.specs.declared.object.Obj.{Obj}
-use Rattle.kernel_records.specs.declared.record.Call.{Call}
-use Rattle.kernel_records.specs.declared.record.CallStage.TheVariants as stage
-use Rattle.kernel_records.specs.Words.{CallTree, change_first, count_object, is_live_call, is_object, is_served_by, left_call, without_arguments_at}
+use Rattle.spec_records.specs.declared.record.Call.{Call}
+use Rattle.spec_records.specs.declared.record.CallStage.TheVariants as stage
+use Rattle.spec_records.specs.Words.{CallTree, change_first, count_object, is_live_call, is_object, is_served_by, left_call, without_arguments_at}
 use Rattle.call_tree.specs.Calls.{dropped_objects, is_called_by, is_waiting, is_waiting_as, leaving_for}
 use Rattle.call_tree.specs.Sound.{AreSound}
 use Rattle.call_tree.specs.Transit.{DropsInTransit, transit_count, transit_in}

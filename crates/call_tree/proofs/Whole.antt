@@ -4,12 +4,12 @@ use Rattle.std.proofs.Common.{◌≡◌, inl, inr, ◌<◌, ◌≤◌, ◌+◌, 
 use Rattle.std.proofs.lemmas.List.{get_or-set_same, get_or-set_other}
 use Rattle.std.proofs.lemmas.Bool.{cases_eq}
 use Rattle.dk_base.specs.declared.error.Errno.TheVariants.{EINTR}
-use Rattle.kernel_records.specs.declared.record.Call.{Call}
-use Rattle.kernel_records.specs.declared.record.CallStage.{CallStage}
-use Rattle.kernel_records.specs.declared.record.CallStage.TheVariants as stage
-use Rattle.kernel_records.specs.Words.{at_stage, is_given_to, is_served_by, is_to_collect, tid, without_arguments_at}
-use Rattle.call_records.specs.Words.{IsFound, calls_in, look, with_call, without_key}
-use Rattle.shuttle_tokens.specs.Words.{CanLink, LinksValue, Linked, Sets, at}
+use Rattle.spec_records.specs.declared.record.Call.{Call}
+use Rattle.spec_records.specs.declared.record.CallStage.{CallStage}
+use Rattle.spec_records.specs.declared.record.CallStage.TheVariants as stage
+use Rattle.spec_records.specs.Words.{at_stage, is_given_to, is_served_by, is_to_collect, tid, without_arguments_at}
+use Rattle.call_tree.specs.Words.{IsFound, calls_in, look, with_call, without_key}
+use Rattle.call_tree.specs.Words.{CanLink, LinksValue, Linked, Sets, at}
 use Rattle.call_tree.specs.Calls.{IsThread, is_called_by, is_given}
 use Rattle.call_tree.specs.Index.{AreSingle, IsSound, IsWhole, Released, moved_to, server_number, stage_server}
 use Rattle.call_tree.proofs.Looks.{find_no, test_same, test_other}

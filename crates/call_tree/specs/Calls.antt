@@ -4,11 +4,11 @@ use Rattle.dk_base.specs.declared.error.Errno.{Errno}
 use Rattle.dk_base.specs.declared.error.Errno.TheVariants.{EINTR}
 use Rattle.dk_base.specs.declared.limits.TheConstants.{THREADS_MAX}
 use Rattle.dk_base.specs.declared.object.Obj.{Obj}
-use Rattle.kernel_records.specs.declared.record.Call.{Call}
-use Rattle.kernel_records.specs.declared.record.CallStage.{CallStage}
-use Rattle.kernel_records.specs.declared.record.CallStage.TheVariants as stage
-use Rattle.kernel_records.specs.Words.{CallTree, Leaving, change_first, interruption, is_served_by, is_to_collect, left_call, live_calls, thread_end, tid, without_arguments_at}
-use Rattle.call_records.specs.Words.{is_call}
+use Rattle.spec_records.specs.declared.record.Call.{Call}
+use Rattle.spec_records.specs.declared.record.CallStage.{CallStage}
+use Rattle.spec_records.specs.declared.record.CallStage.TheVariants as stage
+use Rattle.spec_records.specs.Words.{CallTree, Leaving, change_first, interruption, is_served_by, is_to_collect, left_call, live_calls, thread_end, tid, without_arguments_at}
+use Rattle.call_tree.specs.Kept.{is_call}
 use Rattle.call_tree.specs.declared.parts.Args.{Args}
 use Rattle.call_tree.specs.declared.parts.Leave.{Leave}
 use Rattle.call_tree.specs.declared.parts.Leave.TheVariants.{Interrupted, Finished}

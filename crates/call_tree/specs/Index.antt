@@ -1,13 +1,13 @@
 -- The calls by their keys, the two indexes, and the links between threads, as functions.
 use Rattle.std.specs.Prelude.{◌≡◌, ◌<◌, ◌≤◌, ℕ, zero, suc, Bool, true, false, List, [], ◌∷◌, Option, Some, None, if◌then◌else◌, set}
-use Rattle.kernel_records.specs.declared.record.Call.{Call}
-use Rattle.kernel_records.specs.declared.record.CallStage.{CallStage}
-use Rattle.kernel_records.specs.declared.record.CallStage.TheVariants as stage
-use Rattle.kernel_records.specs.Words.{CallTree, IsAscending, call_number, is_live, is_served_by, is_to_collect, without_arguments_at}
-use Rattle.call_records.specs.Words.{calls_in, look}
-use Rattle.shuttle_tokens.specs.Words.{Cut, LinksValue, at}
-use Rattle.thread_set.specs.declared.set.ThreadSet.{ThreadSet}
-use Rattle.thread_set.specs.Words.{has}
+use Rattle.spec_records.specs.declared.record.Call.{Call}
+use Rattle.spec_records.specs.declared.record.CallStage.{CallStage}
+use Rattle.spec_records.specs.declared.record.CallStage.TheVariants as stage
+use Rattle.spec_records.specs.Words.{CallTree, IsAscending, call_number, is_live, is_served_by, is_to_collect, without_arguments_at}
+use Rattle.call_tree.specs.Kept.{calls_in, look}
+use Rattle.call_tree.specs.Chains.{Cut, LinksValue, at}
+use Rattle.dk_base.specs.declared.thread_set.ThreadSet.{ThreadSet}
+use Rattle.dk_base.specs.Words.{has}
 use Rattle.call_tree.specs.Calls.{IsThread, is_waiting}
 
 -- how many calls were made, those that are live under their keys, and how many further calls take no memory

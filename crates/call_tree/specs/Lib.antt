@@ -5,4 +5,6 @@ pub mod Parting
 pub mod Sound
 pub mod Transit
 pub mod Walks
+pub mod Kept
+pub mod Chains
 pub mod Words

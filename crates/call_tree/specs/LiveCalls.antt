@@ -1,7 +1,7 @@
 -- The calls that are live, with the room for more.
 use Rattle.std.specs.Prelude.{◌≡◌, ◌<◌, ℕ, true, List, [], ◌∷◌}
-use Rattle.kernel_records.specs.declared.record.Call.{Call}
-use Rattle.kernel_records.specs.Words.{CallTree, is_live_call}
+use Rattle.spec_records.specs.declared.record.Call.{Call}
+use Rattle.spec_records.specs.Words.{CallTree, is_live_call}
 
 -- how many calls were made and those that are live, and how many further calls take no memory
 pub record CallsValue : Type 0 where

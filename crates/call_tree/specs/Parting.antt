@@ -2,10 +2,10 @@
 -- it is what becomes of them all at once.
 use Rattle.std.specs.Prelude.{ℕ, ◌≡◌, Bool, false, ◌==◌, ◌||◌, if◌then◌else◌, None, Some, IsSome, find, map}
 use Rattle.dk_base.specs.declared.error.Errno.TheVariants.{EBADF, EINTR}
-use Rattle.kernel_records.specs.declared.record.Call.{Call}
-use Rattle.kernel_records.specs.declared.record.CallStage.{CallStage}
-use Rattle.kernel_records.specs.declared.record.CallStage.TheVariants as stage
-use Rattle.kernel_records.specs.Words.{CallTree, Leaving, abandoned_at, ended_where, gone_call_at, is_queued_as, left_calls, live_calls, without_arguments_at}
+use Rattle.spec_records.specs.declared.record.Call.{Call}
+use Rattle.spec_records.specs.declared.record.CallStage.{CallStage}
+use Rattle.spec_records.specs.declared.record.CallStage.TheVariants as stage
+use Rattle.spec_records.specs.Words.{CallTree, Leaving, abandoned_at, ended_where, gone_call_at, is_queued_as, left_calls, live_calls, without_arguments_at}
 use Rattle.call_tree.specs.Calls.{abandon_call, is_called_by, lose_server, refuse_call}
 use Rattle.call_tree.specs.declared.parts.Leave.{Leave}
 use Rattle.call_tree.specs.declared.parts.Leave.TheVariants.{Finished, Interrupted}

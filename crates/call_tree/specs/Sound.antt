@@ -1,9 +1,9 @@
 -- What the calls of a kernel are to each other. They stand in order of number. What any test finds is found by its number, by its caller and by its server, so each of
 -- these has one call; a call is later than the one that its caller serves, so both walks end.
 use Rattle.std.specs.Prelude.{◌≡◌, ◌<◌, ℕ, Bool, true, Some, find}
-use Rattle.kernel_records.specs.declared.record.Call.{Call}
-use Rattle.kernel_records.specs.Words.{CallTree, IsAscending, call_number, is_served_by, is_to_collect}
-use Rattle.call_records.specs.Words.{is_call}
+use Rattle.spec_records.specs.declared.record.Call.{Call}
+use Rattle.spec_records.specs.Words.{CallTree, IsAscending, call_number, is_served_by, is_to_collect}
+use Rattle.call_tree.specs.Kept.{is_call}
 use Rattle.call_tree.specs.Calls.{IsThread, is_called_by}
 use Rattle.call_tree.specs.LiveCalls.{AreLive}
 

@@ -2,9 +2,9 @@
 use Rattle.std.specs.Prelude.{ℕ, ◌≡◌, ◌+◌, List, IsSome, find, flat_map}
 use Rattle.dk_base.specs.declared.error.Errno.{Errno}
 use Rattle.dk_base.specs.declared.object.Obj.{Obj}
-use Rattle.kernel_records.specs.declared.record.Call.{Call}
-use Rattle.kernel_records.specs.Words.{CallTree, count_object, is_served_by}
-use Rattle.call_records.specs.Words.{is_call}
+use Rattle.spec_records.specs.declared.record.Call.{Call}
+use Rattle.spec_records.specs.Words.{CallTree, count_object, is_served_by}
+use Rattle.call_tree.specs.Kept.{is_call}
 use Rattle.call_tree.specs.Calls.{abandon_call, dropped_objects, is_called_by, is_waiting_as, lose_server, refuse_call, transit_at}
 use Rattle.call_tree.specs.Walks.{argument_objects}
 use Rattle.call_tree.specs.declared.parts.Leave.{Leave}

@@ -2,10 +2,10 @@
 ghost use Rattle.std.specs.Prelude.{◌≡◌, ◌+◌, ◌<◌, ◌≤◌, ◌^◌, ℕ, [], true, find, is_some, length, slice_get, IsOk, IsSome, None, OnOk, Some};
 ghost use Rattle.std.specs.Option.{option_copied, option_map};
 ghost use Rattle.dk_base.specs.declared.error.Errno.TheVariants.{EMFILE};
-ghost use Rattle.kernel_records.specs.declared.record.Call.{Call};
-ghost use Rattle.kernel_records.specs.Words.{collect_call, enter_call, fail_call, give_call, is_client_call_of, is_given_as, is_queued_as, is_served_by, is_to_collect_as, live_calls, open_call, return_call};
-ghost use Rattle.call_records.specs.Words.{is_call};
-ghost use Rattle.thread_set.specs.Words.{has};
+ghost use Rattle.spec_records.specs.declared.record.Call.{Call};
+ghost use Rattle.spec_records.specs.Words.{collect_call, enter_call, fail_call, give_call, is_client_call_of, is_given_as, is_queued_as, is_served_by, is_to_collect_as, live_calls, open_call, return_call};
+ghost use Rattle.call_tree.specs.Words.{is_call};
+ghost use Rattle.dk_base.specs.Words.{has};
 ghost use Rattle.call_tree.specs.Calls.{IsThread, abandon_call, args_in, cancelled_by, dropped_objects, is_called_by, is_given_call, is_ready_of, is_waiting_as, lose_server, outcome_in, parked_thread, queued_call, refuse_call};
 ghost use Rattle.call_tree.specs.LiveCalls.{HasRoomForCall};
 ghost use Rattle.call_tree.specs.Sound.{AreSound};
@@ -20,10 +20,10 @@ use crate::stage::{
 use dk_base::error::{Errno, NoMemory};
 use dk_base::list::{Bytes, ObjList};
 use dk_base::number::Tid;
-use kernel_records::record::{Call, CallStage};
+use dk_base::thread_set::ThreadSet;
+use spec_records::record::{Call, CallStage};
 use std::alloc::Global;
 use std::marker::Model;
-use thread_set::set::ThreadSet;
 
 /// Door calls, in the order in which they were made: those that are neither answered nor left by a caller that ended, and
 /// how many were made in all. Clauses see both (`tree`) and how many further calls take no memory (`spare`).

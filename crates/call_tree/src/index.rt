@@ -1,25 +1,25 @@
 //! The live calls by their keys, found by caller, by server and by number, with the shuttles of their chains.
 ghost use Rattle.std.specs.Prelude.{◌≡◌, ◌<◌, ◌≤◌, ◌+◌, ◌++◌, ◌∷◌, [], ℕ, true, find, is_some, length, slice_get, IsOk, IsSome, None, OnOk, Some};
-ghost use Rattle.kernel_records.specs.declared.record.Call.{Call};
-ghost use Rattle.kernel_records.specs.declared.record.CallStage.TheVariants as stage;
-ghost use Rattle.kernel_records.specs.Words.{IsAscending, at_stage, call_number, is_given_to, is_served_by, is_to_collect, tid, without_arguments_at};
-ghost use Rattle.call_records.specs.Words.{HasKey, IsFound, calls_in, is_call, look, with_call, without_key};
-ghost use Rattle.shuttle_tokens.specs.Words.{LinksValue, at};
+ghost use Rattle.spec_records.specs.declared.record.Call.{Call};
+ghost use Rattle.spec_records.specs.declared.record.CallStage.TheVariants as stage;
+ghost use Rattle.spec_records.specs.Words.{IsAscending, at_stage, call_number, is_given_to, is_served_by, is_to_collect, tid, without_arguments_at};
+ghost use Rattle.call_tree.specs.Words.{HasKey, IsFound, calls_in, is_call, look, with_call, without_key};
+ghost use Rattle.call_tree.specs.Words.{LinksValue, at};
 ghost use Rattle.call_tree.specs.Calls.{IsThread, is_called_by, is_given, is_ready_of};
-ghost use Rattle.thread_set.specs.Words.{has};
+ghost use Rattle.dk_base.specs.Words.{has};
 ghost use Rattle.call_tree.specs.Index.{AreSingle, IsSound, Released, moved_to, server_number, tree_in};
 ghost use Rattle.call_tree.specs.Walks.{lead_in, root_in};
 
+use crate::records::Records;
+use crate::shuttles::Shuttles;
 use crate::stage::{entered, server_number};
-use call_records::Records;
 use dk_base::error::NoMemory;
 use dk_base::list::{Bytes, ObjList};
 use dk_base::number::Tid;
-use kernel_records::record::{Call, CallStage};
-use shuttle_tokens::Shuttles;
+use dk_base::thread_set::ThreadSet;
+use spec_records::record::{Call, CallStage};
 use std::alloc::Global;
 use std::marker::Model;
-use thread_set::set::ThreadSet;
 
 /// Calls by their keys. Of each thread, the key of its call and that of the call which it serves, each one more; 0 is none.
 #[derive(Drop)]
@@ -33,8 +33,8 @@ pub struct CallIndex {
 }
 
 impl Model for CallIndex {
-    ghost use Rattle.call_records.specs.Words.{look};
-    ghost use Rattle.shuttle_tokens.specs.Words.{at};
+    ghost use Rattle.call_tree.specs.Words.{look};
+    ghost use Rattle.call_tree.specs.Words.{at};
     ghost use Rattle.call_tree.specs.Index.{AreCollecting, IndexValue, IsWhole};
 
     ghost Value = { IndexValue };

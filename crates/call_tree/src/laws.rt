@@ -1,5 +1,5 @@
 //! How the calls are left where callers, servers and doors leave at one event: one after the other. Nothing runs here.
-ghost use Rattle.kernel_records.specs.Words.{CallTree};
+ghost use Rattle.spec_records.specs.Words.{CallTree};
 ghost use Rattle.call_tree.specs.Parting.{PartsOfLeaving};
 ghost use Rattle.call_tree.specs.Sound.{AreSound};
 ghost use Rattle.call_tree.specs.Transit.{DropsInTransit};

@@ -1,9 +1,9 @@
 //! What is handed out of a call that ends or leaves.
 ghost use Rattle.std.specs.Prelude.{◌≡◌, ◌≤◌, true, filter, Some};
 ghost use Rattle.std.specs.Option.{option_map};
-ghost use Rattle.kernel_records.specs.declared.record.Call.{Call};
-ghost use Rattle.kernel_records.specs.Words.{broken_call_at, interruption, is_live_call, is_to_collect, left_call};
-ghost use Rattle.call_records.specs.Words.{HasKey, calls_in, look, with_call, without_key};
+ghost use Rattle.spec_records.specs.declared.record.Call.{Call};
+ghost use Rattle.spec_records.specs.Words.{broken_call_at, interruption, is_live_call, is_to_collect, left_call};
+ghost use Rattle.call_tree.specs.Words.{HasKey, calls_in, look, with_call, without_key};
 ghost use Rattle.call_tree.specs.Calls.{cancelled_at, dropped_at, held_at, leaving_for, outcome_at, parked_at};
 ghost use Rattle.call_tree.specs.Index.{AreSingle};
 ghost use Rattle.call_tree.specs.declared.parts.Leave.TheVariants.{Finished, Interrupted};
@@ -14,7 +14,7 @@ use crate::stage::{is_entered, is_open};
 use dk_base::error::Errno;
 use dk_base::list::ObjList;
 use dk_base::number::Tid;
-use kernel_records::record::{Call, CallStage};
+use spec_records::record::{Call, CallStage};
 use std::alloc::Global;
 
 /// The thread that a call was given to.

@@ -6,4 +6,6 @@ mod index;
 pub mod laws;
 mod leave;
 pub mod parts;
+mod records;
+mod shuttles;
 pub mod stage;

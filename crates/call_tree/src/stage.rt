@@ -1,12 +1,12 @@
 //! Where a call stands, and who serves it.
 ghost use Rattle.std.specs.Prelude.{◌≡◌, ℕ, true};
-ghost use Rattle.kernel_records.specs.declared.record.CallStage.TheVariants as call_stage;
-ghost use Rattle.kernel_records.specs.Words.{is_client_call_of, is_entered_by, is_given_as, is_given_to, is_queued, is_to_collect, is_to_collect_as, tid};
+ghost use Rattle.spec_records.specs.declared.record.CallStage.TheVariants as call_stage;
+ghost use Rattle.spec_records.specs.Words.{is_client_call_of, is_entered_by, is_given_as, is_given_to, is_queued, is_to_collect, is_to_collect_as, tid};
 ghost use Rattle.call_tree.specs.Calls.{is_given, is_waiting};
 ghost use Rattle.call_tree.specs.Index.{is_entered, is_open, server_number};
 
 use dk_base::number::Tid;
-use kernel_records::record::{Call, CallStage};
+use spec_records::record::{Call, CallStage};
 
 /// Whether a call at this stage waits for a server thread.
 pub fn is_queued(stage: &CallStage) -> bool

@@ -1,1 +1,4 @@
 pub mod Moved
+pub mod NumbersWhere
+pub mod ThreadBits
+pub mod ThreadMembers

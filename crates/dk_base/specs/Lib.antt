@@ -5,4 +5,6 @@ pub mod Outside
 pub mod Spare
 pub mod Exact
 pub mod ExactParts
+pub mod Numbers
+pub mod ThreadSets
 pub mod Words

@@ -15,3 +15,4 @@ pub mod outside;
 pub mod request;
 pub mod set;
 pub mod standard;
+pub mod thread_set;

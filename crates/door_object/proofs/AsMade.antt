@@ -4,9 +4,9 @@ use Rattle.std.proofs.Math.Seq.{take-append_seam}
 use Rattle.dk_base.specs.declared.request.Param.{Param}
 use Rattle.dk_base.specs.declared.request.Param.TheVariants as param
 use Rattle.dk_base.specs.ByNumber.{at_number}
-use Rattle.kernel_records.specs.declared.record.Door.{Door}
-use Rattle.kernel_records.specs.Words.{change_door, change_door_in, end_owner, has_common_door, is_notice_door, notice_doors, number_of_door, revoke_door, revoked_door, set_param, with_owner_ended, with_param}
-use Rattle.kernel_records.proofs.Lists.{map-map_same, map-with_at_number, same_length}
+use Rattle.spec_records.specs.declared.record.Door.{Door}
+use Rattle.spec_records.specs.Words.{change_door, change_door_in, end_owner, has_common_door, is_notice_door, notice_doors, number_of_door, revoke_door, revoked_door, set_param, with_owner_ended, with_param}
+use Rattle.spec_records.proofs.Lists.{map-map_same, map-with_at_number, same_length}
 use Rattle.door_object.specs.OwnerLists.{as_made, made}
 
 changed : (change : Door → Door) → ((x : Door) → made (change x) ≡ made x) → (doors : List Door) (d : ℕ) → as_made (change_door doors d change) ≡ as_made doors

@@ -5,9 +5,9 @@ use Rattle.std.proofs.lemmas.List.{drop_all, get_or-replicate, length-replicate,
 use Rattle.std.proofs.lemmas.List.Elements.{filter-append}
 use Rattle.std.proofs.lemmas.List.Folds.{list_any-append}
 use Rattle.std.proofs.lemmas.Option.{get_or_from_slice_get, slice_get-get_or, slice_get_within}
-use Rattle.kernel_records.specs.declared.record.Door.{Door}
-use Rattle.kernel_records.specs.Words.{end_owner, has_common_door, is_common_of, is_notice_door, is_private, is_valid_of, notice_doors, number_of_door, valid_doors_of, with_owner_ended}
-use Rattle.kernel_records.proofs.Lists.{slice_get-slice_set, slice_get_push}
+use Rattle.spec_records.specs.declared.record.Door.{Door}
+use Rattle.spec_records.specs.Words.{end_owner, has_common_door, is_common_of, is_notice_door, is_private, is_valid_of, notice_doors, number_of_door, valid_doors_of, with_owner_ended}
+use Rattle.spec_records.proofs.Lists.{slice_get-slice_set, slice_get_push}
 use Rattle.door_object.specs.declared.owner_lists.TheConstants.{LISTS}
 use Rattle.door_object.specs.OwnerLists.{AreLinked, AreListed, as_made, earlier_of, is_listed, last_listed, last_of, list_of}
 

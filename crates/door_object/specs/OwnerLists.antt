@@ -2,8 +2,8 @@
 use Rattle.std.specs.Prelude.{ℕ, zero, suc, ◌≡◌, ◌<◌, ◌%◌, ◌==◌, Bool, false, if◌then◌else◌, List, Option, None, Some, length, map, slice_get}
 use Rattle.std.specs.Option.{option_map}
 use Rattle.door_object.specs.declared.owner_lists.TheConstants.{LISTS}
-use Rattle.kernel_records.specs.declared.record.Door.{Door}
-use Rattle.kernel_records.specs.Words.{has_common_door, new_door, notice_doors}
+use Rattle.spec_records.specs.declared.record.Door.{Door}
+use Rattle.spec_records.specs.Words.{has_common_door, new_door, notice_doors}
 
 -- each number that a process may have has a list of its own
 abbrev pub list_of : ℕ → ℕ

@@ -1,6 +1,6 @@
 //! Sets of attributes (door_create(3C), door_info(3C)).
 ghost use Rattle.std.specs.Prelude.{◌≡◌};
-ghost use Rattle.kernel_records.specs.Words.{attributes_where, first_desc_max, has_attributes, has_told_attributes, has_unref_multi, is_private, refuses_descriptors, takes_notices};
+ghost use Rattle.spec_records.specs.Words.{attributes_where, first_desc_max, has_attributes, has_told_attributes, has_unref_multi, is_private, refuses_descriptors, takes_notices};
 
 use bitflags::Flags;
 use dk_base::set::Attrs;

@@ -1,12 +1,12 @@
 //! One door: whether it is valid, whose it is, who serves it, and who may revoke it.
 ghost use Rattle.std.specs.Prelude.{◌≡◌, Some};
-ghost use Rattle.kernel_records.specs.Words.{bind_tests, first_refusal, has_many, is_common_of, is_owned_by, is_valid_door, is_valid_in, is_valid_of, may_take_notice_in, pool_in, pool_of_door, revoke_tests, revoked_door, with_owner_ended};
+ghost use Rattle.spec_records.specs.Words.{bind_tests, first_refusal, has_many, is_common_of, is_owned_by, is_valid_door, is_valid_in, is_valid_of, may_take_notice_in, pool_in, pool_of_door, revoke_tests, revoked_door, with_owner_ended};
 
 use crate::attributes::{has_unref_multi, is_private, takes_notices};
 use dk_base::error::Errno;
 use dk_base::number::Pid;
-use kernel_records::pool::Pool;
-use kernel_records::record::Door;
+use spec_records::pool::Pool;
+use spec_records::record::Door;
 
 /// A door is valid where it is not revoked and its owner has not ended.
 pub fn is_valid_door(door: &Door) -> bool

@@ -3,7 +3,7 @@ ghost use Rattle.std.specs.Prelude.{◌≡◌, ℕ, ◌+◌, ◌<◌, ◌≤◌,
 ghost use Rattle.dk_base.specs.declared.error.Errno.TheVariants.{EINVAL};
 ghost use Rattle.dk_base.specs.declared.limits.TheConstants.{EVENTS_MAX};
 ghost use Rattle.dk_base.specs.ByNumber.{at_number};
-ghost use Rattle.kernel_records.specs.Words.{bind_tests, end_owner, first_refusal, has_common_door, has_many, has_told_attributes, info_in, is_notice_door, is_valid_in, limit_tests, may_take_notice_in, new_door, notice_doors, param_in, pool_in, refused_where, revoke_door, revoke_tests, set_param, set_param_tests, takes_notices, unless_refused_with, valid_doors_of, with_door};
+ghost use Rattle.spec_records.specs.Words.{bind_tests, end_owner, first_refusal, has_common_door, has_many, has_told_attributes, info_in, is_notice_door, is_valid_in, limit_tests, may_take_notice_in, new_door, notice_doors, param_in, pool_in, refused_where, revoke_door, revoke_tests, set_param, set_param_tests, takes_notices, unless_refused_with, valid_doors_of, with_door};
 
 use crate::attributes::{first_desc_max, has_told_attributes, takes_notices};
 use crate::door::{
@@ -20,8 +20,8 @@ use dk_base::list::DoorList;
 use dk_base::number::Pid;
 use dk_base::request::Param;
 use dk_base::set::Attrs;
-use kernel_records::pool::Pool;
-use kernel_records::record::Door;
+use spec_records::pool::Pool;
+use spec_records::record::Door;
 use std::alloc::Global;
 use std::marker::Model;
 
@@ -43,7 +43,7 @@ pub struct Doors {
 impl Model for Doors {
     ghost use Rattle.std.specs.Prelude.{◌-◌, min, vec_len, vec_capacity};
     ghost use Rattle.dk_base.specs.Spare.{RoomValue};
-    ghost use Rattle.kernel_records.specs.declared.record.Door.{Door};
+    ghost use Rattle.spec_records.specs.declared.record.Door.{Door};
     ghost use Rattle.door_object.specs.OwnerLists.{AreListed, as_made};
 
     ghost Value = { RoomValue Door };
@@ -84,7 +84,7 @@ fn new_door(number: u32, owner: Pid, entry: u32, cookie: u64, attrs: Attrs) -> D
     }
 }
 
-#[tactic(auto, using(kernel_records::proofs::Places::numbered_here))]
+#[tactic(auto, using(spec_records::proofs::Places::numbered_here))]
 fn revoke_at(doors: &mut [Door], d: u32)
     ensures { doors.new ≡ revoke_door doors.old d }
 {
@@ -98,7 +98,7 @@ fn revoke_at(doors: &mut [Door], d: u32)
     }
 }
 
-#[tactic(auto, using(kernel_records::proofs::Places::numbered_here))]
+#[tactic(auto, using(spec_records::proofs::Places::numbered_here))]
 fn set_param_at(doors: &mut [Door], d: u32, param: Param, value: u64)
     ensures { doors.new ≡ set_param doors.old d param value }
 {

@@ -1,13 +1,13 @@
 //! What door_info(3C) tells of a door.
 ghost use Rattle.std.specs.Prelude.{◌≡◌};
-ghost use Rattle.kernel_records.specs.Words.{info_in, info_of, target_of, told_attributes};
+ghost use Rattle.spec_records.specs.Words.{info_in, info_of, target_of, told_attributes};
 
 use crate::attributes::attributes_where;
 use bitflags::Flags;
 use dk_base::answer::DoorInfo;
 use dk_base::number::Pid;
 use dk_base::set::Attrs;
-use kernel_records::record::Door;
+use spec_records::record::Door;
 
 /// The process that serves a door.
 fn target_of(door: &Door) -> Option<Pid>

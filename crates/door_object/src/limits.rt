@@ -1,12 +1,12 @@
 //! The limits of door_call(3C).
 ghost use Rattle.std.specs.Prelude.{◌≡◌, Some};
-ghost use Rattle.kernel_records.specs.Words.{first_refusal, has_refused_size, limit_tests};
+ghost use Rattle.spec_records.specs.Words.{first_refusal, has_refused_size, limit_tests};
 
 use crate::attributes::refuses_descriptors;
 use crate::door::is_valid_door;
 use dk_base::error::Errno;
 use dk_base::limits::{DATA_MAX, PASS_MAX};
-use kernel_records::record::Door;
+use spec_records::record::Door;
 
 fn has_refused_size(door: &Door, size: u64) -> bool
     ensures { result ≡ has_refused_size size (Some door.now) }

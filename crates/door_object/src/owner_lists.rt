@@ -1,6 +1,6 @@
 //! The doors of an owner: each door has the number of the one before it in its owner's list.
 ghost use Rattle.std.specs.Prelude.{◌≡◌, ◌++◌, [], ◌∷◌, IfOk, OnOk, if◌then◌else◌, length, slice_set, true};
-ghost use Rattle.kernel_records.specs.Words.{end_owner, is_private, is_valid_of, valid_doors_of};
+ghost use Rattle.spec_records.specs.Words.{end_owner, is_private, is_valid_of, valid_doors_of};
 ghost use Rattle.door_object.specs.OwnerLists.{AreLinked, as_made, last_of, list_of};
 
 use crate::attributes::is_private;
@@ -10,7 +10,7 @@ use dk_base::limits::PROCESSES_MAX;
 use dk_base::list::DoorList;
 use dk_base::number::Pid;
 use dk_base::set::Attrs;
-use kernel_records::record::Door;
+use spec_records::record::Door;
 use std::alloc::Global;
 
 /// How many lists there are: one for each number from 0 that a process may have. Numbers that no process has share them.

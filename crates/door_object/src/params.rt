@@ -1,13 +1,13 @@
 //! The parameters of doors (door_getparam(3C), door_setparam(3C)).
 ghost use Rattle.std.specs.Prelude.{◌≡◌, Some};
-ghost use Rattle.kernel_records.specs.Words.{first_refusal, has_no_size, is_of_descriptors, param_in, param_of, set_param_tests, with_param, would_have_no_size};
+ghost use Rattle.spec_records.specs.Words.{first_refusal, has_no_size, is_of_descriptors, param_in, param_of, set_param_tests, with_param, would_have_no_size};
 
 use crate::attributes::refuses_descriptors;
 use crate::door::{is_owned_by, is_valid_door};
 use dk_base::error::Errno;
 use dk_base::number::Pid;
 use dk_base::request::Param;
-use kernel_records::record::Door;
+use spec_records::record::Door;
 
 fn param_of(door: &Door, param: Param) -> u64
     ensures { result ≡ param_of param door.now }

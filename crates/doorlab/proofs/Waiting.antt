@@ -2,9 +2,9 @@
 use Rattle.std.proofs.Common.{◌≡◌, ℕ, ◌+◌, ◌≤◌, Bool, true, false, List, [], ◌∷◌, ◌++◌, length, zero, suc, Result, Ok, Err, IfOk, refl, subst, arith, length-append}
 use Rattle.std.specs.Prelude.{if◌then◌else◌}
 use Rattle.dk_base.specs.declared.limits.TheConstants.{THREADS_MAX}
-use Rattle.kernel_records.specs.Words.{tid}
-use Rattle.written_kernel.specs.Types.{Tid}
-use Rattle.written_kernel.specs.Words.{State, is_waiting_state, state_of, waiting_among, waiting_threads}
+use Rattle.spec_records.specs.Words.{tid}
+use Rattle.spec_kernel.specs.Types.{Tid}
+use Rattle.spec_kernel.specs.Words.{State, is_waiting_state, state_of, waiting_among, waiting_threads}
 
 one_more : (n : ℕ) (xs : List Tid) (t : Tid) (b : Bool) → length xs ≤ n → length (xs ++ (if b then t ∷ [] else [])) ≤ suc n
 one_more n xs t true h = simp length-append (omega arith)

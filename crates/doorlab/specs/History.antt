@@ -2,7 +2,7 @@
 use Rattle.std.specs.Prelude.{ℕ, ◌≡◌, List, Option, Result, Ok, Err, IfSome, ⊤}
 use Rattle.std.specs.Io.KnownBytes.{Appends}
 use Rattle.dk_base.specs.Words.{Rose}
-use Rattle.script_line.specs.declared.reason.Reason.TheVariants.{Size}
+use Rattle.line_forms.specs.declared.reason.Reason.TheVariants.{Size}
 use Rattle.whole_text.specs.declared.reading.ReadText.{ReadText}
 use Rattle.whole_text.specs.declared.reading.ReadText.TheVariants.{Whole, TooLong}
 use Rattle.whole_text.specs.Input.{text_within_limit, IsWithinLimit, LeavesNone, LeavesRest}

@@ -2,7 +2,6 @@
 
 ghost use Rattle.std.specs.Prelude.{◌≡◌};
 
-use answering_kernel::what::of_wait;
 use dk_base::answer::Answer;
 use dk_base::error::NoMemory;
 use dk_base::event::What;
@@ -11,8 +10,9 @@ use dk_base::list::TidList;
 use dk_base::number::Tid;
 use dk_base::request::Request;
 use kernel_handle::held::Held;
-use recorded_history::asked::RecordsHistory;
 use spec_histories::opening::{OpeningProcess, OpeningThread};
+use spec_histories::recorded::RecordsHistory;
+use spec_kernel::what::of_wait;
 use std::alloc::Global;
 
 /// The kernel with the history of its turns.

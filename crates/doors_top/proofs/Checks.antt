@@ -1,17 +1,17 @@
 -- What `check` answers, from the laws on texts of traces.
 use Rattle.std.proofs.Common.{◌≡◌, ◌⊎◌, inl, inr, ℕ, Bool, true, false, cond, List, Option, Some, None, Result, Ok, Err, refl, sym, ap, ◌∙◌}
 use Rattle.std.specs.Prelude.{length, nat_le}
-use Rattle.written_kernel.specs.Words.{IsOpening, IsRun, State, Turn}
-use Rattle.kernel_laws.specs.Words.{Laws}
-use Rattle.script_requests.specs.Types.{Bad}
+use Rattle.spec_kernel.specs.Words.{IsOpening, IsRun, State, Turn}
+use Rattle.law_runs.specs.Words.{Laws}
+use Rattle.spec_requests.specs.Types.{Bad}
 use Rattle.script_lang.specs.Words.{IsDecided, ScriptValue, parse_result, spells}
-use Rattle.script_requests.specs.Words.{IsSound}
-use Rattle.written_script.specs.Words.{IsAllowed, opening_of, turns_of}
-use Rattle.written_script.proofs.Histories.{IsOpening-opening_of}
-use Rattle.written_script.proofs.RunTurns.{turns_of-run}
-use Rattle.written_trace.specs.declared.verdict.Verdict.{Verdict}
-use Rattle.written_trace.specs.declared.verdict.Verdict.TheVariants.{Legal, Differs}
-use Rattle.written_trace.specs.Words.{AreParts, HasNoTrace, IsFirstDifference, IsLegal, script_part, trace_part, verdict, verdict_text}
+use Rattle.spec_requests.specs.Words.{IsSound}
+use Rattle.spec_scripts.specs.Words.{IsAllowed, opening_of, turns_of}
+use Rattle.spec_scripts.proofs.Histories.{IsOpening-opening_of}
+use Rattle.spec_scripts.proofs.RunTurns.{turns_of-run}
+use Rattle.spec_traces.specs.declared.verdict.Verdict.{Verdict}
+use Rattle.spec_traces.specs.declared.verdict.Verdict.TheVariants.{Legal, Differs}
+use Rattle.spec_traces.specs.Words.{AreParts, HasNoTrace, IsFirstDifference, IsLegal, script_part, trace_part, verdict, verdict_text}
 use Rattle.whole_text.specs.declared.reading.ReadText.{ReadText}
 use Rattle.whole_text.specs.declared.reading.ReadText.TheVariants.{Whole, TooLong}
 use Rattle.doors_top.specs.declared.script_in.TheConstants.{SCRIPT_LIMIT}

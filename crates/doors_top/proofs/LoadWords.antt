@@ -2,7 +2,7 @@
 use Rattle.std.proofs.Common.{◌≡◌, ℕ, List, [], ◌∷◌, Option, Some, None, codes, refl}
 use Rattle.std.specs.Prelude.{IfSome}
 use Rattle.load_gen.specs.declared.load_script.TheConstants.{CALLS_MAX}
-use Rattle.script_text.specs.Words.{SpellsNumber}
+use Rattle.line_text.specs.Words.{SpellsNumber}
 use Rattle.doors_top.specs.Outcomes.{IsLoad}
 
 pub load_found : (first second : List ℕ) (found : Option ℕ) → first ≡ codes "load" → IfSome found (λ n. SpellsNumber 1 CALLS_MAX n second) → IfSome found (IsLoad (first ∷ second ∷ []))

@@ -3,7 +3,7 @@ use Rattle.std.proofs.Common.{◌≡◌, ℕ, List, None, ◌++◌, codes, ap, s
 use Rattle.script_lang.specs.Words.{ScriptValue}
 use Rattle.load_gen.specs.Words.{IsSummaryOf, load_script, summary_of}
 use Rattle.load_gen.specs.declared.summary_line.SummaryLine.{SummaryLine}
-use Rattle.written_script.specs.Words.{History, ending_of, refusal, turns_of_play}
+use Rattle.spec_scripts.specs.Words.{History, ending_of, refusal, turns_of_play}
 use Rattle.sys_run.specs.Words.{IsPlay, SysValue, history}
 use Rattle.doors_top.specs.declared.status.Status.{Status}
 use Rattle.doors_top.specs.Outcomes.{outcome_of_load, outcome_with}

@@ -1,10 +1,10 @@
 -- What `play` answers and writes, from the clauses of the calls that it makes.
 use Rattle.std.proofs.Common.{◌≡◌, ℕ, List, Option, Some, None, Result, Ok, Err, IfOk, refl, sym, ap, ◌∙◌, subst}
-use Rattle.written_kernel.specs.Types.{Tid}
-use Rattle.script_requests.specs.Types.{Bad}
+use Rattle.spec_kernel.specs.Types.{Tid}
+use Rattle.spec_requests.specs.Types.{Bad}
 use Rattle.script_lang.specs.Words.{ScriptValue}
-use Rattle.script_requests.specs.Words.{refused_text}
-use Rattle.written_script.specs.Words.{History, IsRefusedPlay, IsWholePlay, Refusal, ending_of, refusal, text_of_history, threads_of_events, turns_before, turns_of_play}
+use Rattle.spec_requests.specs.Words.{refused_text}
+use Rattle.spec_scripts.specs.Words.{History, IsRefusedPlay, IsWholePlay, Refusal, ending_of, refusal, text_of_history, threads_of_events, turns_before, turns_of_play}
 use Rattle.sys_run.specs.Words.{IsBefore, IsPlay, LawsOf, SysValue, history, refusal_at}
 use Rattle.whole_text.specs.declared.reading.ReadText.{ReadText}
 use Rattle.doors_top.specs.declared.status.Status.{Status}

@@ -3,8 +3,8 @@ use Rattle.std.proofs.Common.{◌≡◌, ℕ, ◌≤◌, List, length, None, Ok,
 use Rattle.std.specs.Prelude.{nat_le}
 use Rattle.std.proofs.lemmas.Bool.Decides.{nat_tests}
 use Rattle.script_lang.specs.Words.{ScriptValue, canonical_text, parse_result}
-use Rattle.written_script.specs.Words.{History, ending_of, refusal, run, text_of_history, turns_of_play}
-use Rattle.written_trace.specs.Words.{scheduled}
+use Rattle.spec_scripts.specs.Words.{History, ending_of, refusal, run, text_of_history, turns_of_play}
+use Rattle.spec_traces.specs.Words.{scheduled}
 use Rattle.whole_text.specs.declared.reading.ReadText.TheVariants.{Whole, TooLong}
 use Rattle.doors_top.specs.declared.script_in.TheConstants.{SCRIPT_LIMIT}
 use Rattle.whole_text.specs.Input.{text_within_limit}

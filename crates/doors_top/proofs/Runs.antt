@@ -3,11 +3,11 @@ use Rattle.std.proofs.Common.{◌≡◌, ℕ, ◌≤◌, List, length, Some, Res
 use Rattle.std.specs.Prelude.{◌++◌}
 use Rattle.std.proofs.lemmas.List.{length-map}
 use Rattle.script_lang.specs.Words.{ScriptValue, spells}
-use Rattle.script_requests.specs.Types.{Bad}
-use Rattle.script_requests.specs.Words.{tail_text}
-use Rattle.written_script.specs.Words.{IsAllowed, ending_of, is_over, text_of_history, threads_of_events}
-use Rattle.written_script.specs.ScriptRuns.{thread_of_event}
-use Rattle.written_trace.specs.Words.{IsFrontOf, IsFrontOfRun, IsTrace, turns_in}
+use Rattle.spec_requests.specs.Types.{Bad}
+use Rattle.spec_requests.specs.Words.{tail_text}
+use Rattle.spec_scripts.specs.Words.{IsAllowed, ending_of, is_over, text_of_history, threads_of_events}
+use Rattle.spec_scripts.specs.ScriptRuns.{thread_of_event}
+use Rattle.spec_traces.specs.Words.{IsFrontOf, IsFrontOfRun, IsTrace, turns_in}
 use Rattle.sys_run.specs.Words.{LawsOf, SysValue, history}
 use Rattle.whole_text.specs.declared.reading.ReadText.{ReadText}
 use Rattle.whole_text.specs.declared.reading.ReadText.TheVariants.{Whole, TooLong}

@@ -1,7 +1,7 @@
 -- What each command answers and writes, as a function of its words and of what was read.
 use Rattle.std.specs.Prelude.{ℕ, ◌≡◌, ◌≤◌, List, [], ◌∷◌, ◌++◌, ◌||◌, Option, Some, None, Result, Ok, Err, Bool, false, bytes_eq, codes, decimal, map}
 use Rattle.std.specs.Borrow.{Bor}
-use Rattle.written_kernel.specs.Types.{Tid}
+use Rattle.spec_kernel.specs.Types.{Tid}
 use Rattle.doors_top.specs.declared.status.Status.{Status}
 use Rattle.doors_top.specs.declared.status.Status.TheVariants as status
 use Rattle.whole_text.specs.declared.reading.ReadText.{ReadText}
@@ -9,15 +9,15 @@ use Rattle.whole_text.specs.declared.reading.ReadText.TheVariants.{Whole, TooLon
 use Rattle.doors_top.specs.declared.script_in.TheConstants.{SCRIPT_LIMIT}
 use Rattle.whole_text.specs.Input.{text_within_limit}
 use Rattle.doors_top.specs.Status.{status_of_ending, status_of_verdict}
-use Rattle.script_line.specs.declared.reason.Reason.TheVariants.{Size, Trace}
-use Rattle.script_requests.specs.Types.{Bad}
+use Rattle.line_forms.specs.declared.reason.Reason.TheVariants.{Size, Trace}
+use Rattle.spec_requests.specs.Types.{Bad}
 use Rattle.script_lang.specs.Words.{ScriptValue, bad_line, bad_text, canonical_text, parse_result}
-use Rattle.script_requests.specs.Words.{refused_text, tail_text}
+use Rattle.spec_requests.specs.Words.{refused_text, tail_text}
 use Rattle.load_gen.specs.declared.load_script.TheConstants.{CALLS_MAX}
 use Rattle.load_gen.specs.Words.{load_script, summary_of}
-use Rattle.written_script.specs.Words.{History, Refusal, ending_of, refusal, run, text_of_history, turns_before, turns_of_play}
-use Rattle.written_trace.specs.declared.verdict.Verdict.{Verdict}
-use Rattle.written_trace.specs.Words.{line_after_last, script_part, trace_part, verdict, verdict_text}
+use Rattle.spec_scripts.specs.Words.{History, Refusal, ending_of, refusal, run, text_of_history, turns_before, turns_of_play}
+use Rattle.spec_traces.specs.declared.verdict.Verdict.{Verdict}
+use Rattle.spec_traces.specs.Words.{line_after_last, script_part, trace_part, verdict, verdict_text}
 
 -- the words of the command line
 

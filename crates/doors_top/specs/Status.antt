@@ -2,10 +2,10 @@
 use Rattle.std.specs.Prelude.{ℕ, List, Option, Some, None, codes}
 use Rattle.doors_top.specs.declared.status.Status.{Status}
 use Rattle.doors_top.specs.declared.status.Status.TheVariants.{Complete, Stalled, Script, Usage, Budget, Memory, ReadFault, WriteFault, Turn, Illegal}
-use Rattle.script_requests.specs.declared.ending.Ending.{Ending}
-use Rattle.script_requests.specs.declared.ending.Ending.TheVariants as ending
-use Rattle.written_trace.specs.declared.verdict.Verdict.{Verdict}
-use Rattle.written_trace.specs.declared.verdict.Verdict.TheVariants.{Legal, Differs}
+use Rattle.spec_requests.specs.declared.ending.Ending.{Ending}
+use Rattle.spec_requests.specs.declared.ending.Ending.TheVariants as ending
+use Rattle.spec_traces.specs.declared.verdict.Verdict.{Verdict}
+use Rattle.spec_traces.specs.declared.verdict.Verdict.TheVariants.{Legal, Differs}
 
 abbrev pub status_code : Status → ℕ
 status_code Complete = 0

@@ -12,13 +12,13 @@ use Rattle.doors_top.specs.Outcomes.{IsLoad, IsNoCommand, Outcome, is_check, is_
 use Rattle.whole_text.specs.Input.{text_within_limit, IsWithinLimit, LeavesNone, LeavesRest}
 use Rattle.whole_text.specs.Output.{AppendsFront}
 use Rattle.dk_base.specs.Words.{Rose}
-use Rattle.kernel_laws.specs.Words.{Laws}
+use Rattle.law_runs.specs.Words.{Laws}
 use Rattle.load_gen.specs.Words.{load_script, load_text}
 use Rattle.script_lang.specs.Words.{IsDecided, ScriptValue, parse_result, spells}
-use Rattle.script_requests.specs.Types.{Bad}
-use Rattle.written_trace.specs.declared.verdict.Verdict.TheVariants.{Differs, Legal}
-use Rattle.written_trace.specs.Words.{AreParts, HasNoTrace, IsFirstDifference, IsFrontOf, IsFrontOfRun, IsLegal, script_part, trace_part, turns_in, verdict, verdict_text}
-use Rattle.written_script.specs.Words.{IsAllowed, IsRefusedPlay, IsWholePlay, Refusal, is_over, opening_of, refusal, run, turns_before, turns_of, turns_of_play}
+use Rattle.spec_requests.specs.Types.{Bad}
+use Rattle.spec_traces.specs.declared.verdict.Verdict.TheVariants.{Differs, Legal}
+use Rattle.spec_traces.specs.Words.{AreParts, HasNoTrace, IsFirstDifference, IsFrontOf, IsFrontOfRun, IsLegal, script_part, trace_part, turns_in, verdict, verdict_text}
+use Rattle.spec_scripts.specs.Words.{IsAllowed, IsRefusedPlay, IsWholePlay, Refusal, is_over, opening_of, refusal, run, turns_before, turns_of, turns_of_play}
 
 -- a status that says what was asked, and not that memory, a read or a write failed
 abbrev pub IsAnswer : Status → Type 0

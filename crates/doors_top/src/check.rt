@@ -1,7 +1,7 @@
 //! What `check` answers and writes for what was read.
 ghost use Rattle.std.specs.Prelude.{◌≡◌, ◌≤◌, length, option_copied, IfOk};
-ghost use Rattle.script_text.specs.Words.{lines_of};
-ghost use Rattle.written_trace.specs.Words.{verdict};
+ghost use Rattle.line_text.specs.Words.{lines_of};
+ghost use Rattle.spec_traces.specs.Words.{verdict};
 ghost use Rattle.doors_top.specs.declared.script_in.TheConstants.{SCRIPT_LIMIT};
 ghost use Rattle.doors_top.specs.Outcomes.{outcome_of_check, outcome_of_parts, outcome_of_trace, outcome_of_verdict, outcome_with};
 ghost use Rattle.whole_text.specs.declared.reading.ReadText.{ReadText};
@@ -12,14 +12,14 @@ use crate::reply::{Reply, reply_for_bad};
 use crate::script_in::{SCRIPT_LIMIT, script_of_text, too_long};
 use crate::status::Status;
 use dk_base::error::NoMemory;
+use line_forms::reason::Reason;
+use line_text::lines::next_line;
 use script_lang::bad::Bad;
 use script_lang::script::Script;
-use script_line::reason::Reason;
-use script_text::lines::next_line;
+use spec_traces::verdict::Verdict;
 use std::alloc::Global;
 use trace_check::{parts, text_of_verdict};
 use whole_text::reading::ReadText;
-use written_trace::verdict::Verdict;
 
 fn status_of(found: &Verdict) -> Status
     ensures value { result ≡ status_of_verdict found.now }
@@ -117,13 +117,13 @@ fn reply_for_input(alloc: Global, read: &ReadText) -> Result<Reply, NoMemory>
 fn checked_inputs()
     ensures { (read : ReadText) → IsChecked read (outcome_of_check read) }
 {
-    written_trace::laws::parts();
-    written_trace::laws::legal_traces();
-    written_trace::laws::first_differences();
+    spec_traces::laws::parts();
+    spec_traces::laws::legal_traces();
+    spec_traces::laws::first_differences();
     script_lang::laws::text_is_decided();
     script_lang::laws::read_is_spelled();
-    script_requests::laws::sound_scripts();
-    kernel_laws::laws::every_run();
+    spec_requests::laws::sound_scripts();
+    law_runs::laws::every_run();
 }
 
 /// What `check` answers and writes: the verdict on the trace that follows a script, or what is bad of the script's part. Where a trace

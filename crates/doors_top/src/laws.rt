@@ -2,8 +2,8 @@
 
 ghost use Rattle.std.specs.Prelude.{◌≡◌, ◌≤◌, ℕ, List, true, length};
 ghost use Rattle.script_lang.specs.Words.{ScriptValue, canonical_text, spells};
-ghost use Rattle.written_script.specs.Words.{IsAllowed, ending_of, is_over, run, text_of_history};
-ghost use Rattle.written_trace.specs.Words.{scheduled};
+ghost use Rattle.spec_scripts.specs.Words.{IsAllowed, ending_of, is_over, run, text_of_history};
+ghost use Rattle.spec_traces.specs.Words.{scheduled};
 ghost use Rattle.doors_top.specs.declared.script_in.TheConstants.{SCRIPT_LIMIT};
 ghost use Rattle.whole_text.specs.Input.{text_within_limit};
 ghost use Rattle.doors_top.specs.Outcomes.{outcome_of_play, outcome_with};
@@ -17,6 +17,6 @@ pub fn replay()
         outcome_of_play (text_within_limit (canonical_text (scheduled script turns)) SCRIPT_LIMIT)
         ≡ outcome_with (status_of_ending (ending_of (run script turns).state)) (text_of_history script (run script turns)) }
 {
-    written_trace::laws::replay();
+    spec_traces::laws::replay();
     script_lang::laws::spelled_is_read();
 }

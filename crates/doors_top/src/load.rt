@@ -2,7 +2,7 @@
 ghost use Rattle.std.specs.Prelude.{◌≡◌, ◌≤◌, ◌++◌, [], IfOk, codes};
 ghost use Rattle.load_gen.specs.declared.load_script.TheConstants.{CALLS_MAX};
 ghost use Rattle.load_gen.specs.Words.{load_script};
-ghost use Rattle.written_script.specs.Words.{turns_of_play};
+ghost use Rattle.spec_scripts.specs.Words.{turns_of_play};
 ghost use Rattle.sys_run.specs.Words.{with_journal};
 ghost use Rattle.doors_top.specs.Outcomes.{outcome_of_load, outcome_with};
 ghost use Rattle.doors_top.specs.Status.{status_of_ending};
@@ -52,7 +52,7 @@ pub fn load(alloc: Global, n: u32) -> Result<Reply, NoMemory>
     ensures loaded { IfOk result (λ _. IsLoaded n) }
 {
     load_gen::laws::loads();
-    written_script::laws::played_turns();
+    spec_scripts::laws::played_turns();
     let script = generate(alloc, n)?;
     let playing = Playing::new(alloc, script)?;
     let reply = play_load(alloc, n, playing)?;

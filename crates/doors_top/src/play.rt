@@ -1,7 +1,7 @@
 //! What `play` answers and writes for what was read.
 ghost use Rattle.std.specs.Prelude.{◌≡◌, IfOk, OnOk, []};
-ghost use Rattle.script_requests.specs.Words.{lines_text, refused_text};
-ghost use Rattle.written_script.specs.Words.{ending_of, refusal, text_of_history};
+ghost use Rattle.spec_requests.specs.Words.{lines_text, refused_text};
+ghost use Rattle.spec_scripts.specs.Words.{ending_of, refusal, text_of_history};
 ghost use Rattle.sys_run.specs.Words.{EndsPlay, LawsOf, history};
 ghost use Rattle.doors_top.specs.declared.script_in.TheConstants.{SCRIPT_LIMIT};
 ghost use Rattle.whole_text.specs.Input.{IsWithinLimit};
@@ -122,7 +122,7 @@ pub fn play(alloc: Global, read: &ReadText) -> Result<Reply, NoMemory>
     ensures answer { IfOk result (λ reply. IsAnswer reply.status) }
     ensures said { IfOk result (λ reply. IsPlayed read.now (outcome_with reply.status reply.text)) }
 {
-    written_script::laws::played_turns();
+    spec_scripts::laws::played_turns();
     match script_in(alloc, read)? {
         Ok(script) => {
             let reply = play_script(alloc, script)?;

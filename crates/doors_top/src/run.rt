@@ -1,7 +1,7 @@
 //! What `run` answers and writes for what was read.
 ghost use Rattle.std.specs.Prelude.{◌≡◌, ◌+◌, ◌++◌, Some, true, length, sum, IfOk};
-ghost use Rattle.script_requests.specs.Words.{tail_text};
-ghost use Rattle.written_script.specs.Words.{ending_of, is_over, text_of_history};
+ghost use Rattle.spec_requests.specs.Words.{tail_text};
+ghost use Rattle.spec_scripts.specs.Words.{ending_of, is_over, text_of_history};
 ghost use Rattle.sys_run.specs.Words.{LawsOf, history};
 ghost use Rattle.doors_top.specs.declared.script_in.TheConstants.{SCRIPT_LIMIT};
 ghost use Rattle.doors_top.specs.Outcomes.{outcome_with};
@@ -48,9 +48,9 @@ fn reply_for_ran(alloc: Global, ran: &Ran) -> Result<Reply, NoMemory>
     ensures answer { IfOk result (λ reply. IsAnswer reply.status) }
     ensures run { IfOk result (λ reply. IsOfSomeRun ran.now.sys.script (outcome_with reply.status reply.text)) }
 {
-    written_trace::laws::turns_of_texts();
-    written_trace::laws::legal_traces();
-    written_trace::laws::fronts_of_runs();
+    spec_traces::laws::turns_of_texts();
+    spec_traces::laws::legal_traces();
+    spec_traces::laws::fronts_of_runs();
     ran.sys.events();
     let reply = reply_with_tail(alloc, &ran.sys, ran.tail)?;
     Ok(reply)

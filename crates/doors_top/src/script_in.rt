@@ -7,11 +7,11 @@ ghost use Rattle.doors_top.specs.declared.script_in.TheConstants.{SCRIPT_LIMIT};
 ghost use Rattle.doors_top.specs.Top.{IsDecidedText};
 
 use dk_base::error::NoMemory;
+use line_forms::reason::Reason;
 use script_lang::bad::{Bad, ParseFault};
 use script_lang::laws;
 use script_lang::parse::parse;
 use script_lang::script::Script;
-use script_line::reason::Reason;
 use std::alloc::Global;
 use whole_text::reading::ReadText;
 

@@ -4,7 +4,7 @@ ghost use Rattle.std.specs.Option.{option_copied};
 ghost use Rattle.doors_top.specs.Status.{status_code, status_message, status_of_ending};
 ghost use Rattle.doors_top.specs.Top.{IsAnswer};
 
-use script_requests::ending::Ending;
+use spec_requests::ending::Ending;
 
 /// How a command ended.
 #[derive(Clone, Copy, Debug, PartialEq, Eq)]

@@ -1,11 +1,11 @@
 //! Which command the words are.
 ghost use Rattle.std.specs.Prelude.{◌≡◌, ℕ, [], ◌∷◌, Some, IfSome};
 ghost use Rattle.load_gen.specs.declared.load_script.TheConstants.{CALLS_MAX};
-ghost use Rattle.script_text.specs.Words.{SpellsNumber};
+ghost use Rattle.line_text.specs.Words.{SpellsNumber};
 ghost use Rattle.doors_top.specs.Outcomes.{IsLoad, is_check, is_only, is_play, is_run, is_show, texts};
 
+use line_text::number::{Number, bounded_number};
 use load_gen::CALLS_MAX;
-use script_text::number::{Number, bounded_number};
 
 fn is_word(words: &[&str], word: &str) -> bool
     ensures { result ≡ is_only word.now (texts words.now) }
@@ -45,7 +45,7 @@ fn calls_of_word(word: &[u8]) -> Option<u32>
     ensures found { IfSome result (λ n. SpellsNumber 1 CALLS_MAX n word.now) }
     ensures again { (n : ℕ) → SpellsNumber 1 CALLS_MAX n word.now → result ≡ Some n }
 {
-    script_text::laws::number_is_read_where_spelled();
+    line_text::laws::number_is_read_where_spelled();
     match bounded_number(word, 1, u64::from(CALLS_MAX)) {
         Number::Found(n) => Some(n as u32),
         Number::OutOfRange | Number::NoNumber => None,

@@ -4,11 +4,11 @@ use Rattle.std.proofs.lemmas.Bool.Decides.{nat_tests}
 use Rattle.std.proofs.lemmas.List.{get_or-set_same, length-set, map-set}
 use Rattle.std.proofs.lemmas.Option.{slice_get-get_or}
 use Rattle.dk_base.specs.ByNumber.{at_number}
-use Rattle.kernel_records.specs.declared.port.Alert.{Alert}
-use Rattle.kernel_records.specs.declared.port.Queued.{Queued}
-use Rattle.kernel_records.specs.Words.{Port, change_at_number, events_found, left_at, new_port, port_in, port_of, take_events, without_found}
-use Rattle.kernel_records.proofs.Lists.{at_number-set, numbered_push}
-use Rattle.kernel_records.proofs.ChangedNumbers.{at_number-map, change_at_number-none, change_at_number-same, got_map, numbered_at, set_same}
+use Rattle.spec_records.specs.declared.port.Alert.{Alert}
+use Rattle.spec_records.specs.declared.port.Queued.{Queued}
+use Rattle.spec_records.specs.Words.{Port, change_at_number, events_found, left_at, new_port, port_in, port_of, take_events, without_found}
+use Rattle.spec_records.proofs.Lists.{at_number-set, numbered_push}
+use Rattle.spec_records.proofs.ChangedNumbers.{at_number-map, change_at_number-none, change_at_number-same, got_map, numbered_at, set_same}
 use Rattle.event_port.specs.Words.{HasPlacesAt, HasRoomAt, KeepsPlaces, KeepsRoom, KeepsRoomAtOthers, KeepsRoomButOne, PortValue, PortsValue, port_with, room_with}
 
 -- a number that no port has

@@ -4,8 +4,8 @@ use Rattle.std.proofs.lemmas.List.{append_assoc, map-append}
 use Rattle.std.proofs.lemmas.List.Elements.{filter_map-append}
 use Rattle.std.proofs.lemmas.List.Sums.{sum_by-cons}
 use Rattle.dk_base.specs.declared.object.EventRec.{EventRec}
-use Rattle.kernel_records.specs.declared.port.Queued.{Queued}
-use Rattle.kernel_records.specs.Words.{association_of, associations_of, record_of, records_of}
+use Rattle.spec_records.specs.declared.port.Queued.{Queued}
+use Rattle.spec_records.specs.Words.{association_of, associations_of, record_of, records_of}
 
 pub first_taken : {X : Type 0} (qs : List X) (q : X) → slice_get qs 0 ≡ Some q → take 1 qs ≡ q ∷ []
 first_taken [] q e = cc

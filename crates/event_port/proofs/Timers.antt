@@ -1,9 +1,9 @@
 -- The event of a timer, looked for in a queue.
 use Rattle.std.proofs.Common.{◌≡◌, ℕ, ◌||◌, Bool, true, false, List, [], ◌∷◌, Option, None, Some, cond, find, is_some, refl}
 use Rattle.std.specs.List.{list_any}
-use Rattle.kernel_records.specs.declared.port.Alert.{Alert}
-use Rattle.kernel_records.specs.declared.port.Queued.{Queued}
-use Rattle.kernel_records.specs.Words.{Port}
+use Rattle.spec_records.specs.declared.port.Alert.{Alert}
+use Rattle.spec_records.specs.declared.port.Queued.{Queued}
+use Rattle.spec_records.specs.Words.{Port}
 
 abbrev pub with_queue : ℕ → Option Alert → List Queued → Port
 with_queue n alert queue = record { number = n; alert = alert; queue = queue }

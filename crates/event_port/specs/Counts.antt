@@ -1,7 +1,7 @@
 -- How many moments a timer's event counts.
 use Rattle.std.specs.Prelude.{ℕ, Option, None, Some, find}
-use Rattle.kernel_records.specs.declared.port.Queued.{Queued}
-use Rattle.kernel_records.specs.Words.{Port, is_timer_event}
+use Rattle.spec_records.specs.declared.port.Queued.{Queued}
+use Rattle.spec_records.specs.Words.{Port, is_timer_event}
 
 abbrev pub count_in : Option Queued → ℕ
 count_in None = 0

@@ -1,7 +1,7 @@
 -- Ports with the room that each has: how many more events it takes without memory.
 use Rattle.std.specs.Prelude.{◌≡◌, ℕ, ◌+◌, ◌≤◌, ◌==◌, List, IfSome, count_by, drop, length}
 use Rattle.dk_base.specs.ByNumber.{at_number}
-use Rattle.kernel_records.specs.Words.{Port, port_of}
+use Rattle.spec_records.specs.Words.{Port, port_of}
 
 -- one port, and its room
 pub record PortValue : Type 0 where

@@ -1,7 +1,7 @@
 //! The ports of a kernel.
 ghost use Rattle.std.specs.Prelude.{◌≡◌, ◌+◌, ◌<◌, ◌≤◌, ◌++◌, ◌^◌, [], All, IfErr, IfOk, IsOk, None, OnErr, OnOk, Some, false, is_some, length, map, true};
 ghost use Rattle.dk_base.specs.declared.limits.TheConstants.{EVENTS_MAX, USER_EVENTS_MAX};
-ghost use Rattle.kernel_records.specs.Words.{alert_port, alert_tests, associations_of, events_found, events_given, first_found, first_refusal, get_tests, getn_count, getn_tests, grow_timer, has_event_of, has_timer_event, is_full_port, is_ready_for, is_user_event, make_port, must_wait, port_of, post_event, records_of, send_each, send_error, send_errors, send_event, send_if_allowed, take_events, unless_refused_with, user_events, withdraw_event, withdraw_timer};
+ghost use Rattle.spec_records.specs.Words.{alert_port, alert_tests, associations_of, events_found, events_given, first_found, first_refusal, get_tests, getn_count, getn_tests, grow_timer, has_event_of, has_timer_event, is_full_port, is_ready_for, is_user_event, make_port, must_wait, port_of, post_event, records_of, send_each, send_error, send_errors, send_event, send_if_allowed, take_events, unless_refused_with, user_events, withdraw_event, withdraw_timer};
 ghost use Rattle.event_port.specs.Words.{AnswersOrWants, HasRoomAt, KeepsPlaces, KeepsRoom, KeepsRoomAtOthers, KeepsRoomButNamed, KeepsRoomButOne, answer_of, timer_count};
 
 use crate::queue::PortQueue;
@@ -9,8 +9,8 @@ use dk_base::error::{Errno, NoMemory, Refusal};
 use dk_base::list::{IdList, Room};
 use dk_base::object::EventRec;
 use dk_base::request::AlertMode;
-use kernel_records::numbered::{numbered_item, place_of};
-use kernel_records::port::Queued;
+use spec_records::numbered::{numbered_item, place_of};
+use spec_records::port::Queued;
 use std::alloc::Global;
 use std::marker::Model;
 
@@ -77,7 +77,7 @@ impl Ports {
 
     /// Room for so many more events at a port. What is queued at another port uses up none of it. No port has less room than before.
     /// Want of memory leaves all but the room as it was.
-    #[tactic(auto, using(kernel_records::proofs::ChangedNumbers::changed_through, crate::proofs::Changed::room_kept, crate::proofs::Changed::same_ports, crate::proofs::Changed::room_at, crate::proofs::Changed::room_after, crate::proofs::Changed::room_nowhere))]
+    #[tactic(auto, using(spec_records::proofs::ChangedNumbers::changed_through, crate::proofs::Changed::room_kept, crate::proofs::Changed::same_ports, crate::proofs::Changed::room_at, crate::proofs::Changed::room_after, crate::proofs::Changed::room_nowhere))]
     pub fn room(&mut self, p: u32, n: usize) -> Result<(), NoMemory>
         ensures ports { self.new.ports ≡ self.old.ports }
         ensures kept { KeepsRoom self.old.rooms self.new.rooms }
@@ -153,7 +153,7 @@ impl Ports {
     }
 
     /// A user event is queued at a port that is not full. It takes no memory.
-    #[tactic(auto, using(kernel_records::proofs::ChangedNumbers::changed_through, crate::proofs::Changed::room_less, crate::proofs::Changed::room_left, crate::proofs::Changed::room_of_others, crate::proofs::Changed::change_none))]
+    #[tactic(auto, using(spec_records::proofs::ChangedNumbers::changed_through, crate::proofs::Changed::room_less, crate::proofs::Changed::room_left, crate::proofs::Changed::room_of_others, crate::proofs::Changed::change_none))]
     pub fn send_fitting(&mut self, p: u32, events: u32, user: u64)
         requires room { HasRoomAt self.old.rooms p 1 }
         requires allowed { send_error self.old.ports p ≡ None }
@@ -189,7 +189,7 @@ impl Ports {
     }
 
     /// An event that is no user event is queued at a port, last. It takes no memory.
-    #[tactic(auto, using(kernel_records::proofs::ChangedNumbers::changed_through, crate::proofs::Changed::room_less, crate::proofs::Changed::places_kept, crate::proofs::Changed::same_places, crate::proofs::Changed::room_left, crate::proofs::Changed::room_of_others, crate::proofs::Changed::change_none))]
+    #[tactic(auto, using(spec_records::proofs::ChangedNumbers::changed_through, crate::proofs::Changed::room_less, crate::proofs::Changed::places_kept, crate::proofs::Changed::same_places, crate::proofs::Changed::room_left, crate::proofs::Changed::room_of_others, crate::proofs::Changed::change_none))]
     pub fn post_fitting(&mut self, p: u32, q: Queued)
         requires room { HasRoomAt self.old.rooms p 1 }
         requires other { is_user_event q ≡ false }
@@ -220,7 +220,7 @@ impl Ports {
     }
 
     /// What an association queued at a port leaves, and the others keep their order. Says whether there was such an event.
-    #[tactic(auto, using(kernel_records::proofs::ChangedNumbers::changed_through, crate::proofs::Changed::room_kept, crate::proofs::Changed::places_kept, crate::proofs::Changed::same_places, crate::proofs::Changed::change_none, crate::proofs::Changed::no_port_read))]
+    #[tactic(auto, using(spec_records::proofs::ChangedNumbers::changed_through, crate::proofs::Changed::room_kept, crate::proofs::Changed::places_kept, crate::proofs::Changed::same_places, crate::proofs::Changed::change_none, crate::proofs::Changed::no_port_read))]
     pub fn withdraw(&mut self, p: u32, assoc: u32) -> bool
         ensures result { result ≡ has_event_of assoc (port_of self.old.ports p) }
         ensures ports { self.new.ports ≡ withdraw_event self.old.ports p assoc }
@@ -239,7 +239,7 @@ impl Ports {
 
     /// The event that a timer queued at a port counts so many more, and keeps its place. Says whether there was such an event; where there
     /// was none, nothing changes. It takes no memory.
-    #[tactic(auto, using(kernel_records::proofs::ChangedNumbers::changed_through, crate::proofs::Changed::room_kept, crate::proofs::Changed::same_ports, crate::proofs::Changed::change_none, crate::proofs::Changed::no_port_read))]
+    #[tactic(auto, using(spec_records::proofs::ChangedNumbers::changed_through, crate::proofs::Changed::room_kept, crate::proofs::Changed::same_ports, crate::proofs::Changed::change_none, crate::proofs::Changed::no_port_read))]
     pub fn grow(&mut self, p: u32, timer: u32, by: u32) -> bool
         requires { timer_count timer (port_of self.old.ports p) + by < 2 ^ 32 }
         ensures result { result ≡ has_timer_event timer (port_of self.old.ports p) }
@@ -259,7 +259,7 @@ impl Ports {
 
     /// What a timer queued at a port leaves, and the others keep their order. Says whether there was such an event. Its place is free for
     /// another event.
-    #[tactic(auto, using(kernel_records::proofs::ChangedNumbers::changed_through, crate::proofs::Changed::room_kept, crate::proofs::Changed::places_kept, crate::proofs::Changed::same_places, crate::proofs::Changed::change_none, crate::proofs::Changed::no_port_read))]
+    #[tactic(auto, using(spec_records::proofs::ChangedNumbers::changed_through, crate::proofs::Changed::room_kept, crate::proofs::Changed::places_kept, crate::proofs::Changed::same_places, crate::proofs::Changed::change_none, crate::proofs::Changed::no_port_read))]
     pub fn withdraw_timer(&mut self, p: u32, timer: u32) -> bool
         ensures result { result ≡ has_timer_event timer (port_of self.old.ports p) }
         ensures ports { self.new.ports ≡ withdraw_timer self.old.ports p timer }
@@ -288,7 +288,7 @@ impl Ports {
     }
 
     /// A port has this alert in place of an earlier one. Without events alert mode ends.
-    #[tactic(auto, using(kernel_records::proofs::ChangedNumbers::changed_through, crate::proofs::Changed::room_kept, crate::proofs::Changed::change_none))]
+    #[tactic(auto, using(spec_records::proofs::ChangedNumbers::changed_through, crate::proofs::Changed::room_kept, crate::proofs::Changed::change_none))]
     pub fn set_alert(&mut self, p: u32, events: u32, user: u64)
         ensures ports { self.new.ports ≡ alert_port self.old.ports p events user }
         ensures rooms { KeepsRoom self.old.rooms self.new.rooms }
@@ -384,7 +384,7 @@ impl Ports {
         Ok(())
     }
 
-    #[tactic(auto, using(kernel_records::proofs::ChangedNumbers::changed_through, crate::proofs::Changed::room_kept, crate::proofs::Changed::places_kept, crate::proofs::Changed::same_places, crate::proofs::Changed::change_none, crate::proofs::Changed::no_port_read))]
+    #[tactic(auto, using(spec_records::proofs::ChangedNumbers::changed_through, crate::proofs::Changed::room_kept, crate::proofs::Changed::places_kept, crate::proofs::Changed::same_places, crate::proofs::Changed::change_none, crate::proofs::Changed::no_port_read))]
     fn take_first_at(&mut self, p: u32) -> Option<Queued>
         ensures first { result ≡ first_found (port_of self.old.ports p) }
         ensures ports { self.new.ports ≡ take_events self.old.ports p 1 }
@@ -446,7 +446,7 @@ impl Ports {
 
     /// What a get of at most `max` finds at a port is taken, but for an alert, which stays. As it is retrieved it follows what is in
     /// `into`, and the numbers of the associations that queued it what is in `ids`. It takes no memory.
-    #[tactic(auto, using(kernel_records::proofs::ChangedNumbers::changed_through, crate::proofs::Changed::room_kept, crate::proofs::Changed::places_kept, crate::proofs::Changed::same_places, crate::proofs::Changed::change_none, crate::proofs::Changed::no_port_read))]
+    #[tactic(auto, using(spec_records::proofs::ChangedNumbers::changed_through, crate::proofs::Changed::room_kept, crate::proofs::Changed::places_kept, crate::proofs::Changed::same_places, crate::proofs::Changed::change_none, crate::proofs::Changed::no_port_read))]
     pub fn take_found(&mut self, p: u32, max: u32, into: &mut Room<EventRec>, ids: &mut Room<u32>)
         requires record_room { length (events_found max (port_of self.old.ports p)) ≤ into.old.spare }
         requires number_room { length (events_found max (port_of self.old.ports p)) ≤ ids.old.spare }

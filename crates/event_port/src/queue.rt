@@ -4,13 +4,13 @@ ghost use Rattle.std.specs.List.{list_any};
 ghost use Rattle.std.specs.VecDeque.{deque_capacity, deque_len};
 ghost use Rattle.dk_base.specs.declared.limits.TheConstants.{USER_EVENTS_MAX};
 ghost use Rattle.event_port.specs.Words.{timer_count, without_oldest};
-ghost use Rattle.kernel_records.specs.Words.{alert_event, associations_of, change_first, events_found, first_found, grown_event, has_event_of, has_timer_event, is_event_of, is_full_port, is_other_event, is_other_timer_event, is_timer_event, is_user_event, new_port, records_of, user_event, user_events, with_alert, with_event, with_grown_event, without_event, without_found, without_timer_event};
+ghost use Rattle.spec_records.specs.Words.{alert_event, associations_of, change_first, events_found, first_found, grown_event, has_event_of, has_timer_event, is_event_of, is_full_port, is_other_event, is_other_timer_event, is_timer_event, is_user_event, new_port, records_of, user_event, user_events, with_alert, with_event, with_grown_event, without_event, without_found, without_timer_event};
 
 use dk_base::error::NoMemory;
 use dk_base::limits::USER_EVENTS_MAX;
 use dk_base::list::Room;
 use dk_base::object::{EventRec, Src};
-use kernel_records::port::{Alert, Queued};
+use spec_records::port::{Alert, Queued};
 use std::alloc::Global;
 use std::collections::VecDeque;
 use std::marker::Model;
@@ -30,7 +30,7 @@ impl Model for PortQueue {
     ghost use Rattle.std.specs.Prelude.{◌≡◌, ◌≤◌, ◌-◌};
     ghost use Rattle.std.specs.VecDeque.{deque_len, deque_capacity};
     ghost use Rattle.dk_base.specs.declared.limits.TheConstants.{USER_EVENTS_MAX};
-    ghost use Rattle.kernel_records.specs.Words.{user_events};
+    ghost use Rattle.spec_records.specs.Words.{user_events};
     ghost use Rattle.event_port.specs.Words.{PortValue};
 
     ghost Value = { PortValue };

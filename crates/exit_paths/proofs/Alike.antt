@@ -1,11 +1,11 @@
 -- Pools that hold the same threads, items and spares, and pools that hold no more: what that keeps.
 use Rattle.std.proofs.Common.{◌≡◌, ℕ, List, length, refl, sym, ap, ◌∙◌, subst, subst₂}
-use Rattle.kernel_records.specs.Words.{CallTree, NoticeList, ProcessTable}
-use Rattle.written_kernel.specs.Types.{Door, Pool}
+use Rattle.spec_records.specs.Words.{CallTree, NoticeList, ProcessTable}
+use Rattle.spec_kernel.specs.Types.{Door, Pool}
 use Rattle.server_pool.specs.Words.{PoolValue, PoolsValue, change_pool, spares_of, with_room}
-use Rattle.pool_agreement.specs.Words.{Agrees, IsQueueOf, IsStackOf}
-use Rattle.pool_agreement.proofs.Leaving.{read_kept}
-use Rattle.pool_agreement.proofs.Readers.{bindings-change_pool, common-change_pool, private-change_pool, spares-change_pool}
+use Rattle.law_pools.specs.Words.{Agrees, IsQueueOf, IsStackOf}
+use Rattle.law_pools.proofs.Leaving.{read_kept}
+use Rattle.law_pools.proofs.Readers.{bindings-change_pool, common-change_pool, private-change_pool, spares-change_pool}
 pub use Rattle.exit_paths.specs.Words.{HoldsSame}
 
 -- room for a door, and for a thread and an item of a pool

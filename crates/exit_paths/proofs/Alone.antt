@@ -3,7 +3,7 @@ use Rattle.std.proofs.Common.{◌≡◌, ⊎_elim, ℕ, zero, suc, ◌<◌, ◌�
 use Rattle.std.proofs.lemmas.Bool.Decides.{nat_tests}
 use Rattle.dk_base.specs.declared.number.Tid.{Tid}
 use Rattle.dk_base.specs.declared.limits.TheConstants.{THREADS_MAX}
-use Rattle.kernel_records.specs.Words.{numbers_where, tid}
+use Rattle.spec_records.specs.Words.{numbers_where, tid}
 use Rattle.exit_paths.specs.Words.{threads_where}
 use Rattle.exit_paths.proofs.Unmoved.{numbers_none}
 

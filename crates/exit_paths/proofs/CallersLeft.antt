@@ -2,14 +2,14 @@
 use Rattle.std.proofs.Common.{◌≡◌, ℕ, zero, suc, ◌<◌, ◌==◌, ◌&&◌, ◌||◌, Bool, true, false, if◌then◌else◌, List, [], ◌∷◌, Option, Some, None, find, slice_get, refl, sym, ap, ap₂, ◌∙◌, subst, arith}
 use Rattle.std.proofs.lemmas.Bool.Decides.{nat_tests}
 use Rattle.dk_base.specs.ByNumber.{at_number}
-use Rattle.kernel_records.specs.Words.{CallTree, IsAscending, Leaving, call_number, interruption, is_pool, is_queued, is_queued_in, left_calls, live_calls, pool_in, thread_end, waiting_call, waiting_notice}
-use Rattle.kernel_records.proofs.NumberedLists.{ascending-above, find-passes}
-use Rattle.written_kernel.specs.Types.{Call, Door, Notice, Pool, Waiting}
+use Rattle.spec_records.specs.Words.{CallTree, IsAscending, Leaving, call_number, interruption, is_pool, is_queued, is_queued_in, left_calls, live_calls, pool_in, thread_end, waiting_call, waiting_notice}
+use Rattle.spec_records.proofs.NumberedLists.{ascending-above, find-passes}
+use Rattle.spec_kernel.specs.Types.{Call, Door, Notice, Pool, Waiting}
 use Rattle.call_tree.specs.Words.{AreSound, PartsOfLeaving, abandon_call, and_one, is_call, is_called_by, lose_server, nothing_left}
 use Rattle.call_tree.specs.declared.parts.Leave.TheVariants.{Finished, Interrupted}
-use Rattle.pool_agreement.specs.Words.{leaves_queue}
-use Rattle.pool_agreement.proofs.Readers.{is_pool-sym, same_number}
-use Rattle.pool_agreement.proofs.WaitingLists.{both_true}
+use Rattle.law_pools.specs.Words.{leaves_queue}
+use Rattle.law_pools.proofs.Readers.{is_pool-sym, same_number}
+use Rattle.law_pools.proofs.WaitingLists.{both_true}
 use Rattle.exit_paths.specs.Words.{is_call_of, is_queued_at, pool_of_number}
 use Rattle.exit_paths.proofs.QueuesLeft.{GoAs}
 

@@ -5,15 +5,15 @@ use Rattle.std.proofs.lemmas.Bool.Decides.{nat_tests}
 use Rattle.std.proofs.lemmas.List.Folds.{list_any-append}
 use Rattle.dk_base.specs.declared.error.Errno.TheVariants.{EBADF}
 use Rattle.dk_base.specs.declared.object.Item.TheVariants as item
-use Rattle.kernel_records.specs.declared.record.CallStage.TheVariants as stage
-use Rattle.kernel_records.specs.Words.{CallTree, call_number, is_live, is_live_call, is_queued, is_queued_as}
-use Rattle.kernel_records.proofs.NumberedLists.{find-as, find-passes}
-use Rattle.written_kernel.specs.Types.{Call, Item}
+use Rattle.spec_records.specs.declared.record.CallStage.TheVariants as stage
+use Rattle.spec_records.specs.Words.{CallTree, call_number, is_live, is_live_call, is_queued, is_queued_as}
+use Rattle.spec_records.proofs.NumberedLists.{find-as, find-passes}
+use Rattle.spec_kernel.specs.Types.{Call, Item}
 use Rattle.server_pool.specs.Words.{is_item}
 use Rattle.call_tree.specs.Words.{AreLive, AreSound, LeftSoFar, PartsOfLeaving, abandon_call, and_one, call_so_far, calls_so_far, is_call, lose_server, nothing_left, refuse_call}
 use Rattle.call_tree.specs.declared.parts.Leave.TheVariants.{Finished}
-use Rattle.pool_agreement.proofs.Readers.{same_number}
-use Rattle.pool_agreement.proofs.WaitingLists.{both_true}
+use Rattle.law_pools.proofs.Readers.{same_number}
+use Rattle.law_pools.proofs.WaitingLists.{both_true}
 use Rattle.exit_paths.specs.Words.{AreRefused, HaveEnded, all_left, refused_caller, refused_item}
 
 -- where no caller has ended

@@ -4,15 +4,15 @@ use Rattle.std.specs.List.{AllByRecursion, list_any}
 use Rattle.std.proofs.lemmas.Bool.Decides.{nat_tests}
 use Rattle.dk_base.specs.ByNumber.{at_number}
 use Rattle.dk_base.specs.declared.object.Item.TheVariants as item
-use Rattle.kernel_records.specs.declared.record.CallStage.TheVariants as stage
-use Rattle.kernel_records.specs.Words.{CallTree, Leaving, NoticeList, ProcessTable, interruption, is_owned_by, is_pool, is_queued, is_queued_in, is_waiting_stage, left_calls, live_calls, pool_in, process_end, process_in, revocation, waiting_call, waiting_notice}
-use Rattle.kernel_records.proofs.Lists.{numbered_past}
-use Rattle.written_kernel.specs.Types.{Call, Door, Item, Notice, Pool, Waiting}
+use Rattle.spec_records.specs.declared.record.CallStage.TheVariants as stage
+use Rattle.spec_records.specs.Words.{CallTree, Leaving, NoticeList, ProcessTable, interruption, is_owned_by, is_pool, is_queued, is_queued_in, is_waiting_stage, left_calls, live_calls, pool_in, process_end, process_in, revocation, waiting_call, waiting_notice}
+use Rattle.spec_records.proofs.Lists.{numbered_past}
+use Rattle.spec_kernel.specs.Types.{Call, Door, Item, Notice, Pool, Waiting}
 use Rattle.server_pool.specs.Words.{PoolsValue, is_item, is_waiting_at, is_waiting_call, queue_in}
 use Rattle.call_tree.specs.Words.{AreSound, PartsOfLeaving, is_call, is_called_by}
-use Rattle.pool_agreement.specs.Words.{Agrees, is_notice_waiting, is_waiting_notice_in, leaves_queue}
-use Rattle.pool_agreement.proofs.Readers.{is_pool-sym, same_number}
-use Rattle.pool_agreement.proofs.WaitingLists.{both_true}
+use Rattle.law_pools.specs.Words.{Agrees, is_notice_waiting, is_waiting_notice_in, leaves_queue}
+use Rattle.law_pools.proofs.Readers.{is_pool-sym, same_number}
+use Rattle.law_pools.proofs.WaitingLists.{both_true}
 use Rattle.exit_paths.specs.Words.{AreLost, AreRefused, AreTold, HaveEnded, is_at_door, is_at_lost, is_call_of, is_call_of_any, is_thread_of, pool_of_number}
 use Rattle.exit_paths.proofs.CallersLeft.{caller_goes, or_false, stands}
 use Rattle.exit_paths.proofs.Fated.{all_kept}

@@ -4,18 +4,18 @@ use Rattle.std.proofs.lemmas.Bool.Decides.{nat_tests}
 use Rattle.std.proofs.lemmas.List.{length-map}
 use Rattle.dk_base.specs.declared.limits.TheConstants.{THREADS_MAX}
 use Rattle.dk_base.specs.declared.number.Tid.{Tid}
-use Rattle.kernel_records.specs.declared.pool.TheConstants.{LOST_DOOR}
-use Rattle.kernel_records.specs.declared.record.CallStage.TheVariants as stage
-use Rattle.kernel_records.proofs.NumberedLists.{find-passes}
-use Rattle.kernel_records.specs.Words.{CallTree, Leaving, NoticeList, ProcessTable, bound_at, change_thread, is_entered_by, is_given_to, is_served_by, left_calls, left_notices, left_threads, kept_notices, live_calls, parked_at, process_in, thread_at, tid}
-use Rattle.written_kernel.specs.Types.{Call, CallStage, Door, Notice, Parked, Pool, Thread, Waiting}
+use Rattle.spec_records.specs.declared.pool.TheConstants.{LOST_DOOR}
+use Rattle.spec_records.specs.declared.record.CallStage.TheVariants as stage
+use Rattle.spec_records.proofs.NumberedLists.{find-passes}
+use Rattle.spec_records.specs.Words.{CallTree, Leaving, NoticeList, ProcessTable, bound_at, change_thread, is_entered_by, is_given_to, is_served_by, left_calls, left_notices, left_threads, kept_notices, live_calls, parked_at, process_in, thread_at, tid}
+use Rattle.spec_kernel.specs.Types.{Call, CallStage, Door, Notice, Parked, Pool, Thread, Waiting}
 use Rattle.call_tree.specs.Words.{AreSound, is_called_by, is_given}
 use Rattle.server_pool.specs.Words.{ParkedBefore, PoolsValue, pool_at, stack_in, thread_room_in}
-use Rattle.pool_agreement.specs.Words.{Agrees, AgreesSomehow, HasPlaces, pool_by}
-use Rattle.written_kernel.proofs.Places.{place_of}
-use Rattle.pool_agreement.proofs.Parked.{all_in}
-use Rattle.pool_agreement.proofs.Readers.{there_is}
-use Rattle.pool_agreement.proofs.Stacks.{own_pool_there}
+use Rattle.law_pools.specs.Words.{Agrees, AgreesSomehow, HasPlaces, pool_by}
+use Rattle.spec_kernel.proofs.Places.{place_of}
+use Rattle.law_pools.proofs.Parked.{all_in}
+use Rattle.law_pools.proofs.Readers.{there_is}
+use Rattle.law_pools.proofs.Stacks.{own_pool_there}
 use Rattle.exit_paths.specs.Words.{AreTogether, CanExit, CanParkAgain, DropsTransit, HasExited, HasNoLessRoom, HaveLeft, HoldsSame, IsUntaken, KeepsItems, Kept, TellsUntaken, became_idle, became_ready, deserted_at_stage, deserted_in_call, is_given_in, own_pool_in, parks_again, parks_in, serves_given, threads_where}
 use Rattle.exit_paths.specs.declared.fates.Deserted.{Deserted}
 use Rattle.exit_paths.specs.declared.fates.Desertion.TheVariants.{IsCancelled, Parks}

@@ -2,18 +2,18 @@
 use Rattle.std.proofs.Common.{◌≡◌, ℕ, zero, suc, ◌+◌, ◌≤◌, ◌==◌, ◌&&◌, Bool, true, false, if◌then◌else◌, List, [], ◌∷◌, Option, Some, None, option_map, is_some, length, filter, slice_get, slice_set, refl, sym, ap, ◌∙◌, subst, le_refl, le_trans, length-append, arith}
 use Rattle.std.specs.List.{AllByRecursion}
 use Rattle.dk_base.specs.ByNumber.{at_number, with_at_number}
-use Rattle.kernel_records.specs.declared.pool.Pool.TheVariants.{Common, Private}
-use Rattle.kernel_records.specs.declared.record.ThreadState.TheVariants as is
-use Rattle.kernel_records.specs.Words.{CallTree, NoticeList, ProcessTable, bound_at, cancelled_thread, change_thread, change_thread_in, end_thread, ended_thread, idle_thread, interrupted_state, interrupted_where, is_dormant, is_idle, is_pool, is_spare_of, park_thread, parked_in, pool_of_thread, process_in, thread_at, tid}
-use Rattle.written_kernel.specs.Types.{Door, Parked, Pool, Thread, ThreadState}
-use Rattle.kernel_records.proofs.Lists.{at_number-suc, with_at_number-suc}
+use Rattle.spec_records.specs.declared.pool.Pool.TheVariants.{Common, Private}
+use Rattle.spec_records.specs.declared.record.ThreadState.TheVariants as is
+use Rattle.spec_records.specs.Words.{CallTree, NoticeList, ProcessTable, bound_at, cancelled_thread, change_thread, change_thread_in, end_thread, ended_thread, idle_thread, interrupted_state, interrupted_where, is_dormant, is_idle, is_pool, is_spare_of, park_thread, parked_in, pool_of_thread, process_in, thread_at, tid}
+use Rattle.spec_kernel.specs.Types.{Door, Parked, Pool, Thread, ThreadState}
+use Rattle.spec_records.proofs.Lists.{at_number-suc, with_at_number-suc}
 use Rattle.server_pool.specs.Words.{AllParkedBefore, ParkedBefore, PoolValue, PoolsValue, change_pool, change_spares, is_another_thread, park_in, pool_at, pool_or_empty, stack_in, thread_room_in, unpark_in, with_parked, without_thread, item_room_in}
 use Rattle.server_pool.proofs.Changed.{pool_changed, pool_kept}
-use Rattle.pool_agreement.specs.Words.{Agrees, pool_by}
-use Rattle.pool_agreement.proofs.Leaving.{read_change}
-use Rattle.pool_agreement.proofs.Readers.{bindings-change_pool}
-use Rattle.pool_agreement.proofs.Stacks.{state_changed, thread_there}
-use Rattle.pool_agreement.proofs.Unparking.{agrees_alike, agrees_park_after, change_twice}
+use Rattle.law_pools.specs.Words.{Agrees, pool_by}
+use Rattle.law_pools.proofs.Leaving.{read_change}
+use Rattle.law_pools.proofs.Readers.{bindings-change_pool}
+use Rattle.law_pools.proofs.Stacks.{state_changed, thread_there}
+use Rattle.law_pools.proofs.Unparking.{agrees_alike, agrees_park_after, change_twice}
 use Rattle.exit_paths.specs.Words.{KeepsItems, own_pool_in, places_in}
 
 -- the record of one thread

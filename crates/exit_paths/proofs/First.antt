@@ -3,12 +3,12 @@ use Rattle.std.proofs.Common.{◌≡◌, ℕ, zero, suc, List, [], Option, Some,
 use Rattle.std.specs.Prelude.{replicate}
 use Rattle.dk_base.specs.ByNumber.{at_number}
 use Rattle.dk_base.specs.declared.limits.TheConstants.{THREADS_MAX}
-use Rattle.kernel_records.specs.Words.{bound_at, bound_in, parked_at, parked_thread}
-use Rattle.kernel_records.proofs.Lists.{at_number-suc}
-use Rattle.written_kernel.specs.Types.{Parked}
+use Rattle.spec_records.specs.Words.{bound_at, bound_in, parked_at, parked_thread}
+use Rattle.spec_records.proofs.Lists.{at_number-suc}
+use Rattle.spec_kernel.specs.Types.{Parked}
 use Rattle.call_tree.specs.Words.{CallsValue}
 use Rattle.server_pool.specs.Words.{no_pools}
-use Rattle.pool_agreement.proofs.Starting.{agrees_none}
+use Rattle.law_pools.proofs.Starting.{agrees_none}
 use Rattle.exit_paths.specs.Words.{CanExit}
 
 nothing_at : {X : Type 0} (k : ℕ) (x : X) → at_number [] k ≡ Some x → ⊥

@@ -7,22 +7,22 @@ use Rattle.std.proofs.lemmas.List.Concat.{flat_map-cons}
 use Rattle.std.proofs.lemmas.List.Folds.{list_any-append}
 use Rattle.dk_base.specs.declared.limits.TheConstants.{THREADS_MAX}
 use Rattle.dk_base.specs.declared.number.Tid.{Tid}
-use Rattle.kernel_records.specs.declared.record.CallStage.TheVariants as stage
-use Rattle.kernel_records.specs.declared.record.ThreadState.TheVariants as is
-use Rattle.kernel_records.specs.Words.{CallTree, ProcessTable, deserted_at, deserted_in, forking, interrupted_state, interrupted_where, is_calling, is_fellow_caller, is_queued_in, is_served_by, left_calls, left_thread_of, live_calls, numbers_where, process_in, state_in, thread_at, tid, waiting_call}
-use Rattle.kernel_records.proofs.DoorNumbers.{there-numbers_where}
-use Rattle.kernel_records.proofs.Lists.{numbered_within}
-use Rattle.written_kernel.specs.Types.{Call, CallStage, Door, Notice, Obj, Pool, Thread, ThreadState}
-use Rattle.written_kernel.specs.Words.{objects_in_call, objects_in_transit}
+use Rattle.spec_records.specs.declared.record.CallStage.TheVariants as stage
+use Rattle.spec_records.specs.declared.record.ThreadState.TheVariants as is
+use Rattle.spec_records.specs.Words.{CallTree, ProcessTable, deserted_at, deserted_in, forking, interrupted_state, interrupted_where, is_calling, is_fellow_caller, is_queued_in, is_served_by, left_calls, left_thread_of, live_calls, numbers_where, process_in, state_in, thread_at, tid, waiting_call}
+use Rattle.dk_base.proofs.NumbersWhere.{there-numbers_where}
+use Rattle.spec_records.proofs.Lists.{numbered_within}
+use Rattle.spec_kernel.specs.Types.{Call, CallStage, Door, Notice, Obj, Pool, Thread, ThreadState}
+use Rattle.spec_kernel.specs.Words.{objects_in_call, objects_in_transit}
 use Rattle.call_tree.specs.Words.{AreSound, PartsOfLeaving, and_one, calls_so_far, is_call, is_called_by, nothing_left, transit_at, transit_in}
 use Rattle.call_tree.specs.declared.parts.Leave.TheVariants.{Interrupted}
 use Rattle.fork_step.specs.Forking.{abandon_each, after_one, dropped_by_each}
-use Rattle.pool_agreement.specs.Words.{leaves_queue}
-use Rattle.pool_agreement.proofs.Readers.{same_number}
-use Rattle.pool_agreement.proofs.WaitingLists.{both_true}
+use Rattle.law_pools.specs.Words.{leaves_queue}
+use Rattle.law_pools.proofs.Readers.{same_number}
+use Rattle.law_pools.proofs.WaitingLists.{both_true}
 use Rattle.proc_table.specs.Words.{is_of}
-use Rattle.thread_set.specs.declared.set.ThreadSet.{ThreadSet}
-use Rattle.thread_set.specs.Words.{has, with_thread}
+use Rattle.dk_base.specs.declared.thread_set.ThreadSet.{ThreadSet}
+use Rattle.dk_base.specs.Words.{has, with_thread}
 use Rattle.exit_paths.specs.Words.{DropsTransit, deserted_in_call, is_call_of_any, transit}
 use Rattle.exit_paths.proofs.CallersLeft.{or_false, stands}
 use Rattle.exit_paths.proofs.DoorsLost.{no_notice, one_among}

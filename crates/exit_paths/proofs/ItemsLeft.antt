@@ -3,13 +3,13 @@ use Rattle.std.proofs.Common.{◌≡◌, ℕ, suc, ◌+◌, ◌≤◌, ◌&&◌,
 use Rattle.std.proofs.Math.Seq.{take-suc}
 use Rattle.std.proofs.lemmas.List.Folds.{list_any-append}
 use Rattle.std.proofs.lemmas.List.Sums.{count_by-le-length, length-filter, sum_by-cons}
-use Rattle.kernel_records.specs.declared.pool.Pool.TheVariants.{Common, Private}
-use Rattle.kernel_records.specs.Words.{is_pool}
-use Rattle.written_kernel.specs.Types.{Door, Pool, Waiting}
+use Rattle.spec_records.specs.declared.pool.Pool.TheVariants.{Common, Private}
+use Rattle.spec_records.specs.Words.{is_pool}
+use Rattle.spec_kernel.specs.Types.{Door, Pool, Waiting}
 use Rattle.server_pool.specs.Words.{PoolValue, PoolsValue, change_pool, drop_door_in, is_waiting_at, items_waiting_at, pool_at, pool_or_empty, queue_in, with_waiting}
 use Rattle.server_pool.proofs.Changed.{pool_changed, pool_kept}
-use Rattle.pool_agreement.proofs.Leaving.{read_change, read_kept}
-use Rattle.pool_agreement.proofs.Readers.{bindings-change_pool, common-change_pool, private-change_pool, spares-change_pool}
+use Rattle.law_pools.proofs.Leaving.{read_change, read_kept}
+use Rattle.law_pools.proofs.Readers.{bindings-change_pool, common-change_pool, private-change_pool, spares-change_pool}
 use Rattle.exit_paths.specs.Words.{HaveLeft, is_at_door, is_at_lost, kept_where, none_gone, pool_of_number, waiting_total}
 
 -- lists

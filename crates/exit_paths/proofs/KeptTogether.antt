@@ -2,17 +2,17 @@
 use Rattle.std.proofs.Common.{◌≡◌, ℕ, ◌<◌, ◌≤◌, ◌==◌, ◌&&◌, ◌||◌, not, Bool, true, false, if◌then◌else◌, List, [], ◌∷◌, Option, Some, None, option_map, find, filter, map, refl, sym, ap, ap₂, ◌∙◌, arith}
 use Rattle.std.proofs.lemmas.Bool.Decides.{nat_tests}
 use Rattle.dk_base.specs.declared.object.Item.TheVariants as item
-use Rattle.kernel_records.specs.declared.record.CallStage.TheVariants as stage
-use Rattle.kernel_records.specs.declared.record.ThreadState.TheVariants as is
-use Rattle.kernel_records.specs.Words.{CallTree, IsAscending, Leaving, ProcessTable, call_number, cancelled_invocation, cancelled_thread, deserted_at, deserted_in, ended_thread, interrupted_state, interrupted_where, invocation_in, is_entered_by, is_given_to, is_left, is_live, is_live_call, is_served_by, is_to_collect, left_call, left_calls, left_thread_of, left_threads, live_calls, state_in, thread_at, tid}
-use Rattle.kernel_records.proofs.Lists.{at_number-map}
-use Rattle.kernel_records.proofs.NumberedLists.{find-passes}
-use Rattle.written_kernel.specs.Types.{Call, CallStage, Inv, Item, Thread, ThreadState}
-use Rattle.kernel_invariant.specs.Core.{abandoned_in, caller_number, is_outside, is_underway, live_in, underway_in}
-use Rattle.kernel_invariant.specs.Records.{item_in, stage_in}
+use Rattle.spec_records.specs.declared.record.CallStage.TheVariants as stage
+use Rattle.spec_records.specs.declared.record.ThreadState.TheVariants as is
+use Rattle.spec_records.specs.Words.{CallTree, IsAscending, Leaving, ProcessTable, call_number, cancelled_invocation, cancelled_thread, deserted_at, deserted_in, ended_thread, interrupted_state, interrupted_where, invocation_in, is_entered_by, is_given_to, is_left, is_live, is_live_call, is_served_by, is_to_collect, left_call, left_calls, left_thread_of, left_threads, live_calls, state_in, thread_at, tid}
+use Rattle.spec_records.proofs.Lists.{at_number-map}
+use Rattle.spec_records.proofs.NumberedLists.{find-passes}
+use Rattle.spec_kernel.specs.Types.{Call, CallStage, Inv, Item, Thread, ThreadState}
+use Rattle.law_states.specs.Core.{abandoned_in, caller_number, is_outside, is_underway, live_in, underway_in}
+use Rattle.law_states.specs.Records.{item_in, stage_in}
 use Rattle.call_tree.specs.Words.{AreSound, is_call}
-use Rattle.pool_agreement.proofs.Readers.{same_number}
-use Rattle.pool_agreement.proofs.WaitingLists.{both_true}
+use Rattle.law_pools.proofs.Readers.{same_number}
+use Rattle.law_pools.proofs.WaitingLists.{both_true}
 use Rattle.exit_paths.specs.Words.{AreTogether, call_of, or_forgotten, role_of, serves_in}
 
 -- the calls

@@ -3,19 +3,19 @@ use Rattle.std.proofs.Common.{◌≡◌, ◌⊎◌, inl, inr, ⊎_elim, ℕ, zer
 use Rattle.std.proofs.Math.Path.{fun_ext}
 use Rattle.std.proofs.lemmas.Bool.Decides.{nat_tests}
 use Rattle.dk_base.specs.ByNumber.{at_number}
-use Rattle.kernel_records.specs.declared.leaving.Leaver.{Leaver}
-use Rattle.kernel_records.specs.declared.leaving.Leaver.TheVariants.{Interrupted, Ended, EndedProcess, Revoked, Forked}
-use Rattle.kernel_records.specs.declared.record.CallStage.TheVariants as stage
-use Rattle.kernel_records.specs.Words.{CallTree, Leaving, NoticeList, ProcessTable, bound_at, cancelled_thread, change_thread, deserted_at, deserted_in, ended_thread, interrupted_where, is_left, is_owned_by, is_served_by, leaving_of, left_thread_of, left_threads, parked_at, parked_thread, process_in, thread_at, tid}
-use Rattle.written_kernel.specs.Types.{Call, CallStage, Door, Parked, Pool, Thread}
-use Rattle.kernel_records.proofs.Lists.{at_number-map, at_number-suc, numbered_past, numbered_there}
-use Rattle.written_kernel.proofs.Places.{place_of}
-use Rattle.written_kernel.proofs.Threads.{processes-change_thread}
+use Rattle.spec_records.specs.declared.leaving.Leaver.{Leaver}
+use Rattle.spec_records.specs.declared.leaving.Leaver.TheVariants.{Interrupted, Ended, EndedProcess, Revoked, Forked}
+use Rattle.spec_records.specs.declared.record.CallStage.TheVariants as stage
+use Rattle.spec_records.specs.Words.{CallTree, Leaving, NoticeList, ProcessTable, bound_at, cancelled_thread, change_thread, deserted_at, deserted_in, ended_thread, interrupted_where, is_left, is_owned_by, is_served_by, leaving_of, left_thread_of, left_threads, parked_at, parked_thread, process_in, thread_at, tid}
+use Rattle.spec_kernel.specs.Types.{Call, CallStage, Door, Parked, Pool, Thread}
+use Rattle.spec_records.proofs.Lists.{at_number-map, at_number-suc, numbered_past, numbered_there}
+use Rattle.spec_kernel.proofs.Places.{place_of}
+use Rattle.spec_kernel.proofs.Threads.{processes-change_thread}
 use Rattle.server_pool.specs.Words.{AllParkedBefore, ParkedBefore, PoolsValue, stack_in, thread_room_in}
-use Rattle.pool_agreement.specs.Words.{Agrees, IsParkedIn, pool_by}
-use Rattle.pool_agreement.proofs.Parked.{all_in}
-use Rattle.pool_agreement.proofs.Readers.{same_number}
-use Rattle.pool_agreement.proofs.Stacks.{length-change_thread, thread_elsewhere, thread_there}
+use Rattle.law_pools.specs.Words.{Agrees, IsParkedIn, pool_by}
+use Rattle.law_pools.proofs.Parked.{all_in}
+use Rattle.law_pools.proofs.Readers.{same_number}
+use Rattle.law_pools.proofs.Stacks.{length-change_thread, thread_elsewhere, thread_there}
 use Rattle.exit_paths.specs.Words.{own_pool_in, with_interrupted}
 
 -- each thread keeps its process

@@ -1,12 +1,12 @@
 -- Room that is made for threads.
 use Rattle.std.proofs.Common.{◌≡◌, ℕ, ◌≤◌, Bool, true, false, List, Option, Some, None, option_map, is_some, length, refl, sym, ap, ◌∙◌, subst, le_refl, arith}
-use Rattle.kernel_records.specs.declared.pool.Pool.TheVariants.{Common, Private}
-use Rattle.kernel_records.specs.Words.{is_pool}
-use Rattle.written_kernel.specs.Types.{Pool}
+use Rattle.spec_records.specs.declared.pool.Pool.TheVariants.{Common, Private}
+use Rattle.spec_records.specs.Words.{is_pool}
+use Rattle.spec_kernel.specs.Types.{Pool}
 use Rattle.dk_base.specs.ByNumber.{at_number}
-use Rattle.written_kernel.proofs.Giving.{same_pool}
-use Rattle.kernel_records.proofs.Lists.{numbered_within}
-use Rattle.pool_agreement.proofs.Readers.{there_is}
+use Rattle.spec_kernel.proofs.Giving.{same_pool}
+use Rattle.spec_records.proofs.Lists.{numbered_within}
+use Rattle.law_pools.proofs.Readers.{there_is}
 use Rattle.server_pool.specs.Words.{PoolValue, PoolsValue, change_pool, item_room_in, pool_at, pool_or_empty, thread_room_in, with_room}
 use Rattle.server_pool.proofs.Changed.{pool_changed, pool_kept}
 use Rattle.exit_paths.specs.Words.{HasNoLessRoom, HoldsSame}

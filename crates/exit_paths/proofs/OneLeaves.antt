@@ -1,20 +1,20 @@
 -- One caller leaves: what becomes of threads, which of them become idle, and whose calls can be collected.
 use Rattle.std.proofs.Common.{◌≡◌, ℕ, zero, suc, ◌==◌, ◌&&◌, ◌||◌, not, Bool, true, false, if◌then◌else◌, List, [], ◌∷◌, Option, Some, None, option_map, is_some, find, filter, map, slice_get, refl, sym, ap, ap₂, ◌∙◌, subst, arith}
 use Rattle.std.proofs.lemmas.Bool.Decides.{nat_tests}
-use Rattle.kernel_records.specs.declared.record.CallStage.TheVariants as stage
-use Rattle.kernel_records.specs.declared.record.ThreadState.TheVariants as is
-use Rattle.kernel_records.specs.Words.{CallTree, Leaving, ProcessTable, cancelled_thread, change_thread, deserted_at, deserted_in, end_thread, ended_thread, idle_thread, interrupted_state, interrupted_thread, interruption, is_given_to, is_entered_by, is_idle, is_left, is_served_by, is_to_collect, is_live_call, left_call, left_calls, left_thread_of, left_threads, live_calls, state_in, tid, thread_at, thread_end}
-use Rattle.kernel_records.proofs.Lists.{at_number-map, at_number-suc}
-use Rattle.kernel_records.proofs.NumberedLists.{find-passes}
-use Rattle.written_kernel.specs.Types.{Call, CallStage, Thread, ThreadState}
-use Rattle.written_kernel.proofs.Threads.{processes-change_thread}
+use Rattle.spec_records.specs.declared.record.CallStage.TheVariants as stage
+use Rattle.spec_records.specs.declared.record.ThreadState.TheVariants as is
+use Rattle.spec_records.specs.Words.{CallTree, Leaving, ProcessTable, cancelled_thread, change_thread, deserted_at, deserted_in, end_thread, ended_thread, idle_thread, interrupted_state, interrupted_thread, interruption, is_given_to, is_entered_by, is_idle, is_left, is_served_by, is_to_collect, is_live_call, left_call, left_calls, left_thread_of, left_threads, live_calls, state_in, tid, thread_at, thread_end}
+use Rattle.spec_records.proofs.Lists.{at_number-map, at_number-suc}
+use Rattle.spec_records.proofs.NumberedLists.{find-passes}
+use Rattle.spec_kernel.specs.Types.{Call, CallStage, Thread, ThreadState}
+use Rattle.spec_kernel.proofs.Threads.{processes-change_thread}
 use Rattle.dk_base.specs.declared.limits.TheConstants.{THREADS_MAX}
-use Rattle.kernel_records.proofs.DoorNumbers.{numbers_where-same}
+use Rattle.dk_base.proofs.NumbersWhere.{numbers_where-same}
 use Rattle.call_tree.specs.Words.{AreLive, AreSound, caller_among, caller_in, is_call, is_called_by, is_ready_of}
-use Rattle.pool_agreement.proofs.Readers.{same_number}
-use Rattle.pool_agreement.proofs.WaitingLists.{both_true}
+use Rattle.law_pools.proofs.Readers.{same_number}
+use Rattle.law_pools.proofs.WaitingLists.{both_true}
 use Rattle.exit_paths.proofs.CallersLeft.{or_false, stands}
-use Rattle.pool_agreement.proofs.Stacks.{thread_elsewhere, thread_there}
+use Rattle.law_pools.proofs.Stacks.{thread_elsewhere, thread_there}
 use Rattle.exit_paths.specs.Words.{deserted_as, deserted_at_stage, became_idle, became_ready, deserted_in_call, has_ready, is_idle_at, parked_of, threads_where, with_deserted, woken_of}
 use Rattle.exit_paths.specs.declared.fates.Deserted.{Deserted}
 use Rattle.exit_paths.specs.declared.fates.Desertion.{Desertion}

@@ -3,12 +3,12 @@ use Rattle.std.proofs.Common.{◌≡◌, ℕ, zero, suc, ◌+◌, ◌<◌, ◌�
 use Rattle.std.specs.List.{AllByRecursion, list_any}
 use Rattle.std.proofs.lemmas.Bool.Decides.{nat_tests}
 use Rattle.dk_base.specs.ByNumber.{at_number}
-use Rattle.kernel_records.specs.Words.{CallTree, NoticeList, ProcessTable, is_owned_by, is_pool, is_queued, is_queued_in, is_valid_in, is_valid_of, is_waiting_stage, number_of_door, pool_in, process_end, valid_doors_of, waiting_call, waiting_notice}
-use Rattle.kernel_records.proofs.Lists.{at_number-suc}
-use Rattle.written_kernel.specs.Types.{Call, Door, Notice, Waiting}
+use Rattle.spec_records.specs.Words.{CallTree, NoticeList, ProcessTable, is_owned_by, is_pool, is_queued, is_queued_in, is_valid_in, is_valid_of, is_waiting_stage, number_of_door, pool_in, process_end, valid_doors_of, waiting_call, waiting_notice}
+use Rattle.spec_records.proofs.Lists.{at_number-suc}
+use Rattle.spec_kernel.specs.Types.{Call, Door, Notice, Waiting}
 use Rattle.server_pool.specs.Words.{PoolsValue, is_waiting_at, is_waiting_call, queue_in}
-use Rattle.pool_agreement.specs.Words.{Agrees, is_waiting_notice_in}
-use Rattle.pool_agreement.proofs.WaitingLists.{both_true}
+use Rattle.law_pools.specs.Words.{Agrees, is_waiting_notice_in}
+use Rattle.law_pools.proofs.WaitingLists.{both_true}
 use Rattle.exit_paths.specs.Words.{AreLost}
 
 -- doors that pass, by their numbers

@@ -3,15 +3,15 @@ use Rattle.std.proofs.Common.{◌≡◌, ℕ, zero, suc, ◌<◌, ◌≤◌, ◌
 use Rattle.std.proofs.lemmas.Bool.Decides.{nat_tests}
 use Rattle.std.proofs.Common.{arith}
 use Rattle.dk_base.specs.ByNumber.{at_number}
-use Rattle.kernel_records.specs.Words.{CallTree, IsAscending, Leaving, NoticeList, ProcessTable, call_number, is_kept_notice, is_live_call, is_queued, is_pool, is_queued_in, is_waiting_stage, kept_notices, left_call, left_calls, left_notice, left_notices, live_calls, notice_number, pool_in, waiting_call, waiting_notice}
-use Rattle.kernel_records.proofs.NumberedLists.{ascending-filter}
-use Rattle.written_kernel.specs.Types.{Call, Door, Notice, Pool, Waiting}
+use Rattle.spec_records.specs.Words.{CallTree, IsAscending, Leaving, NoticeList, ProcessTable, call_number, is_kept_notice, is_live_call, is_queued, is_pool, is_queued_in, is_waiting_stage, kept_notices, left_call, left_calls, left_notice, left_notices, live_calls, notice_number, pool_in, waiting_call, waiting_notice}
+use Rattle.spec_records.proofs.NumberedLists.{ascending-filter}
+use Rattle.spec_kernel.specs.Types.{Call, Door, Notice, Pool, Waiting}
 use Rattle.server_pool.specs.Words.{PoolsValue, is_waiting_call, queue_in, spares_or_none, stack_in}
 use Rattle.server_pool.proofs.Order.{ordered_filter}
-use Rattle.pool_agreement.specs.Words.{Agrees, AreDated, IsQueueOf, WaitsBefore, date_of_call, date_of_notice, is_notice_waiting, is_waiting_notice_in, leaves_queue}
-use Rattle.pool_agreement.proofs.Dated.{dated_filter}
-use Rattle.pool_agreement.proofs.Noticed.{kept_filter, waiting_kept}
-use Rattle.pool_agreement.proofs.Queues.{stack_same, waiting_live}
+use Rattle.law_pools.specs.Words.{Agrees, AreDated, IsQueueOf, WaitsBefore, date_of_call, date_of_notice, is_notice_waiting, is_waiting_notice_in, leaves_queue}
+use Rattle.law_pools.proofs.Dated.{dated_filter}
+use Rattle.law_pools.proofs.Noticed.{kept_filter, waiting_kept}
+use Rattle.law_pools.proofs.Queues.{stack_same, waiting_live}
 use Rattle.exit_paths.specs.Words.{HaveLeft, kept_where}
 use Rattle.exit_paths.proofs.ItemsLeft.{filter_alike, filter_both}
 

@@ -5,16 +5,16 @@ use Rattle.std.proofs.lemmas.Bool.Decides.{nat_tests}
 use Rattle.std.proofs.lemmas.List.{map-append}
 use Rattle.dk_base.specs.declared.number.Tid.{Tid}
 use Rattle.dk_base.specs.declared.limits.TheConstants.{THREADS_MAX}
-use Rattle.kernel_records.specs.declared.record.ThreadState.TheVariants as is
-use Rattle.kernel_records.specs.Words.{CallTree, NoticeList, ProcessTable, bound_at, is_idle, is_pool, numbers_where, parked_at, parked_in, parked_thread, pool_of_thread, process_in, state_in, thread_at, tid}
-use Rattle.written_kernel.specs.Types.{Door, Parked, Pool, Thread, ThreadState}
-use Rattle.written_kernel.proofs.Places.{IsIn, place_of}
+use Rattle.spec_records.specs.declared.record.ThreadState.TheVariants as is
+use Rattle.spec_records.specs.Words.{CallTree, NoticeList, ProcessTable, bound_at, is_idle, is_pool, numbers_where, parked_at, parked_in, parked_thread, pool_of_thread, process_in, state_in, thread_at, tid}
+use Rattle.spec_kernel.specs.Types.{Door, Parked, Pool, Thread, ThreadState}
+use Rattle.spec_kernel.proofs.Places.{IsIn, place_of}
 use Rattle.server_pool.specs.Words.{IsStack, ParkedBefore, PoolsValue, is_thread, stack_in}
-use Rattle.pool_agreement.specs.Words.{Agrees, IsListed, IsParkedIn, pool_by}
-use Rattle.pool_agreement.proofs.Parked.{all_in, not_both, parked_number, parked_within}
-use Rattle.pool_agreement.proofs.Readers.{same_number}
-use Rattle.pool_agreement.proofs.Stacks.{not_parked}
-use Rattle.pool_agreement.proofs.Unparking.{parked_in_own}
+use Rattle.law_pools.specs.Words.{Agrees, IsListed, IsParkedIn, pool_by}
+use Rattle.law_pools.proofs.Parked.{all_in, not_both, parked_number, parked_within}
+use Rattle.law_pools.proofs.Readers.{same_number}
+use Rattle.law_pools.proofs.Stacks.{not_parked}
+use Rattle.law_pools.proofs.Unparking.{parked_in_own}
 use Rattle.exit_paths.specs.Words.{became_idle, is_idle_at, parks_in, threads_where}
 use Rattle.exit_paths.proofs.Alone.{none_low, none_zero, one_number}
 use Rattle.exit_paths.proofs.ItemsLeft.{count_cons}

@@ -1,17 +1,17 @@
 -- What a kernel keeps of a written state, of which the invariant holds: its threads and calls say the same of each other.
 use Rattle.std.proofs.Common.{◌≡◌, ℕ, ◌<◌, ◌≤◌, ◌==◌, Bool, true, false, if◌then◌else◌, List, [], ◌∷◌, Option, Some, None, find, filter, refl, sym, ap, ◌∙◌, subst, arith}
 use Rattle.std.proofs.lemmas.Bool.Decides.{nat_tests}
-use Rattle.kernel_records.specs.declared.record.CallStage.TheVariants as stage
-use Rattle.kernel_records.specs.Words.{IsAscending, call_number, is_live, is_live_call, state_in, thread_at, tid}
-use Rattle.kernel_records.proofs.NumberedLists.{counted-ascending}
-use Rattle.written_kernel.specs.Types.{Call, CallStage}
-use Rattle.written_kernel.specs.Words.{State, StandsFor, forget}
-use Rattle.kernel_invariant.specs.Coherent.{AreInvocations, AreWaits}
-use Rattle.kernel_invariant.specs.Core.{abandoned_in, caller_number, core, live_in, number_in, underway_in}
-use Rattle.kernel_invariant.specs.Invariant.{IsConsistent}
-use Rattle.kernel_invariant.specs.Records.{record_of, stage_in}
+use Rattle.spec_records.specs.declared.record.CallStage.TheVariants as stage
+use Rattle.spec_records.specs.Words.{IsAscending, call_number, is_live, is_live_call, state_in, thread_at, tid}
+use Rattle.spec_records.proofs.NumberedLists.{counted-ascending}
+use Rattle.spec_kernel.specs.Types.{Call, CallStage}
+use Rattle.spec_kernel.specs.Words.{State, StandsFor, forget}
+use Rattle.law_states.specs.Coherent.{AreInvocations, AreWaits}
+use Rattle.law_states.specs.Core.{abandoned_in, caller_number, core, live_in, number_in, underway_in}
+use Rattle.law_states.specs.Invariant.{IsConsistent}
+use Rattle.law_states.specs.Records.{record_of, stage_in}
 use Rattle.call_tree.specs.Words.{is_call}
-use Rattle.pool_agreement.proofs.Readers.{same_number}
+use Rattle.law_pools.proofs.Readers.{same_number}
 use Rattle.exit_paths.specs.Words.{AreTogether, call_of, forgotten, or_forgotten}
 
 -- a record that is not live is forgotten

@@ -2,20 +2,20 @@
 use Rattle.std.proofs.Common.{◌≡◌, ℕ, ◌+◌, ◌==◌, ◌&&◌, ◌||◌, not, Bool, true, false, if◌then◌else◌, List, [], ◌∷◌, ◌++◌, Option, Some, None, IsSome, count_by, filter, find, length, length-append, refl, sym, ap, ap₂, ◌∙◌, subst, arith}
 use Rattle.std.proofs.lemmas.List.Concat.{flat_map-cons}
 use Rattle.std.proofs.lemmas.List.Sums.{sum_by-append}
-use Rattle.kernel_records.specs.declared.record.CallStage.TheVariants as stage
+use Rattle.spec_records.specs.declared.record.CallStage.TheVariants as stage
 use Rattle.dk_base.specs.declared.error.Errno.{Errno}
 use Rattle.dk_base.specs.declared.error.Errno.TheVariants.{EBADF, EINTR}
-use Rattle.kernel_records.specs.Words.{CallTree, Leaving, abandoned_at, broken_call_at, call_number, change_first, ended_where, gone_call_at, interruption, is_entered_by, is_given_to, is_live, is_live_call, is_queued, is_queued_as, is_served_by, left_call, thread_end, without_arguments_at}
-use Rattle.kernel_records.proofs.NumberedLists.{find-as, find-passes}
+use Rattle.spec_records.specs.Words.{CallTree, Leaving, abandoned_at, broken_call_at, call_number, change_first, ended_where, gone_call_at, interruption, is_entered_by, is_given_to, is_live, is_live_call, is_queued, is_queued_as, is_served_by, left_call, thread_end, without_arguments_at}
+use Rattle.spec_records.proofs.NumberedLists.{find-as, find-passes}
 use Rattle.call_tree.specs.Words.{AreSound, abandon_call, argument_objects, arguments_at, dropped_at, dropped_objects, is_call, is_called_by, is_waiting, is_waiting_as, leaving_for, lose_server, refuse_call}
 use Rattle.call_tree.specs.declared.parts.Leave.{Leave}
 use Rattle.call_tree.specs.declared.parts.Leave.TheVariants.{Finished, Interrupted}
 use Rattle.call_tree.proofs.Keys.{queued_is}
-use Rattle.pool_agreement.proofs.Readers.{same_number}
-use Rattle.pool_agreement.proofs.WaitingLists.{both_true}
-use Rattle.kernel_records.proofs.Places.{change_first-none}
-use Rattle.written_kernel.specs.Types.{Call, CallStage, Obj}
-use Rattle.written_kernel.specs.Words.{objects_in_call, objects_in_transit}
+use Rattle.law_pools.proofs.Readers.{same_number}
+use Rattle.law_pools.proofs.WaitingLists.{both_true}
+use Rattle.spec_records.proofs.Places.{change_first-none}
+use Rattle.spec_kernel.specs.Types.{Call, CallStage, Obj}
+use Rattle.spec_kernel.specs.Words.{objects_in_call, objects_in_transit}
 use Rattle.exit_paths.specs.Words.{DropsTransit, transit}
 
 pub count_append : {X : Type 0} (p : X → Bool) (xs ys : List X) → count_by p (xs ++ ys) ≡ count_by p xs + count_by p ys

@@ -1,8 +1,8 @@
 -- Threads that no exit path touches.
 use Rattle.std.proofs.Common.{◌≡◌, ℕ, zero, suc, ◌&&◌, not, Bool, true, false, if◌then◌else◌, List, [], ◌∷◌, ◌++◌, Option, Some, None, find, map, refl, sym, ap, ap₂}
 use Rattle.dk_base.specs.declared.limits.TheConstants.{THREADS_MAX}
-use Rattle.kernel_records.specs.Words.{ProcessTable, deserted_in, is_served_by, left_thread_of, left_threads, numbers_where, revocation, tid}
-use Rattle.written_kernel.specs.Types.{Call, Thread}
+use Rattle.spec_records.specs.Words.{ProcessTable, deserted_in, is_served_by, left_thread_of, left_threads, numbers_where, revocation, tid}
+use Rattle.spec_kernel.specs.Types.{Call, Thread}
 use Rattle.exit_paths.specs.Words.{became_idle, is_idle_at, threads_where}
 
 -- a revocation leaves threads as they are

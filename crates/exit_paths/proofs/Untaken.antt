@@ -5,12 +5,12 @@ use Rattle.std.proofs.lemmas.Bool.Decides.{nat_tests}
 use Rattle.std.proofs.lemmas.List.Folds.{list_any-append}
 use Rattle.dk_base.specs.ByNumber.{at_number}
 use Rattle.dk_base.specs.declared.object.Item.TheVariants as item
-use Rattle.kernel_records.specs.Words.{CallTree, IsAscending, Leaving, NoticeList, ProcessTable, call_number, is_pool, is_queued, is_queued_in, is_waiting_stage, notice_number, pool_in, revocation, waiting_call, waiting_notice}
-use Rattle.written_kernel.specs.Types.{Call, Door, Item, Notice, Pool, Waiting}
-use Rattle.written_kernel.proofs.Giving.{same_pool}
+use Rattle.spec_records.specs.Words.{CallTree, IsAscending, Leaving, NoticeList, ProcessTable, call_number, is_pool, is_queued, is_queued_in, is_waiting_stage, notice_number, pool_in, revocation, waiting_call, waiting_notice}
+use Rattle.spec_kernel.specs.Types.{Call, Door, Item, Notice, Pool, Waiting}
+use Rattle.spec_kernel.proofs.Giving.{same_pool}
 use Rattle.server_pool.specs.Words.{PoolsValue, change_pool, drop_door_in, is_call, is_item, is_waiting_at, is_waiting_call, items_at, queue_in}
-use Rattle.pool_agreement.specs.Words.{Agrees, is_notice_waiting, is_waiting_notice_in}
-use Rattle.pool_agreement.proofs.Readers.{is_pool-self, same_number}
+use Rattle.law_pools.specs.Words.{Agrees, is_notice_waiting, is_waiting_notice_in}
+use Rattle.law_pools.proofs.Readers.{is_pool-self, same_number}
 use Rattle.exit_paths.specs.Words.{AreLost, AreTold, HoldsSame, IsUntaken, TellsUntaken, dropped_items, kept_where, pool_of_number}
 use Rattle.exit_paths.proofs.CallersLeft.{or_false}
 use Rattle.exit_paths.proofs.DoorsLost.{call_listed, notice_listed}

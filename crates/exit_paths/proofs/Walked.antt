@@ -3,20 +3,20 @@ use Rattle.std.proofs.Common.{◌≡◌, ⊎_elim, ℕ, zero, suc, ◌+◌, ◌-
 use Rattle.std.proofs.lemmas.Bool.Decides.{nat_tests}
 use Rattle.dk_base.specs.ByNumber.{at_number}
 use Rattle.dk_base.specs.declared.limits.TheConstants.{THREADS_MAX}
-use Rattle.kernel_records.specs.declared.record.CallStage.TheVariants as stage
-use Rattle.kernel_records.specs.Words.{CallTree, Leaving, ProcessTable, deserted_at, deserted_in, ended_thread, interrupted_where, is_entered_by, is_given_to, is_served_by, left_thread_of, numbers_where, process_end, process_in, thread_at}
-use Rattle.kernel_records.proofs.DoorNumbers.{length-numbers_where}
-use Rattle.kernel_records.proofs.Lists.{numbered_past, numbered_there}
-use Rattle.kernel_records.proofs.NumberedLists.{find-passes}
-use Rattle.written_kernel.specs.Types.{Call, CallStage, Door, Pool, Thread, Waiting}
+use Rattle.spec_records.specs.declared.record.CallStage.TheVariants as stage
+use Rattle.spec_records.specs.Words.{CallTree, Leaving, ProcessTable, deserted_at, deserted_in, ended_thread, interrupted_where, is_entered_by, is_given_to, is_served_by, left_thread_of, numbers_where, process_end, process_in, thread_at}
+use Rattle.dk_base.proofs.NumbersWhere.{length-numbers_where}
+use Rattle.spec_records.proofs.Lists.{numbered_past, numbered_there}
+use Rattle.spec_records.proofs.NumberedLists.{find-passes}
+use Rattle.spec_kernel.specs.Types.{Call, CallStage, Door, Pool, Thread, Waiting}
 use Rattle.call_tree.specs.Words.{AreSound, PartsOfLeaving, abandon_call, is_called_by, lose_server}
 use Rattle.call_tree.specs.declared.parts.Leave.TheVariants.{Finished}
-use Rattle.pool_agreement.proofs.Readers.{same_number}
-use Rattle.pool_agreement.proofs.WaitingLists.{both_true}
+use Rattle.law_pools.proofs.Readers.{same_number}
+use Rattle.law_pools.proofs.WaitingLists.{both_true}
 use Rattle.proc_table.specs.Words.{is_of}
-use Rattle.thread_set.specs.declared.set.ThreadSet.{ThreadSet}
-use Rattle.thread_set.specs.Sets.{members}
-use Rattle.thread_set.specs.Words.{has, with_thread}
+use Rattle.dk_base.specs.declared.thread_set.ThreadSet.{ThreadSet}
+use Rattle.dk_base.specs.ThreadSets.{members}
+use Rattle.dk_base.specs.Words.{has, with_thread}
 use Rattle.exit_paths.specs.declared.fates.Deserted.{Deserted}
 use Rattle.exit_paths.specs.Words.{HaveEnded, deserted_at_stage, deserted_in_call, is_call_of, is_call_of_any, is_thread_of}
 use Rattle.exit_paths.proofs.CallsSoFar.{next_ended}

@@ -3,9 +3,9 @@ use Rattle.std.specs.Prelude.{ℕ, ◌≡◌, ◌<◌, ◌≤◌, ◌==◌, ◌&
 use Rattle.std.specs.List.{list_any}
 use Rattle.dk_base.specs.declared.error.Errno.TheVariants.{EBADF}
 use Rattle.dk_base.specs.declared.object.Item.TheVariants as item
-use Rattle.kernel_records.specs.declared.record.CallStage.TheVariants as stage
-use Rattle.kernel_records.specs.Words.{CallTree, ProcessTable, is_queued, process_in, thread_at}
-use Rattle.written_kernel.specs.Types.{Call, Item}
+use Rattle.spec_records.specs.declared.record.CallStage.TheVariants as stage
+use Rattle.spec_records.specs.Words.{CallTree, ProcessTable, is_queued, process_in, thread_at}
+use Rattle.spec_kernel.specs.Types.{Call, Item}
 use Rattle.server_pool.specs.Words.{is_item}
 use Rattle.call_tree.specs.Words.{LeftSoFar, calls_so_far, is_call, nothing_left, refuse_call}
 use Rattle.exit_paths.specs.Exits.{transit}

@@ -5,12 +5,12 @@ use Rattle.std.specs.List.{AllByRecursion, list_any}
 use Rattle.dk_base.specs.declared.number.Tid.{Tid}
 use Rattle.dk_base.specs.declared.limits.TheConstants.{THREADS_MAX}
 use Rattle.dk_base.specs.declared.object.Item.TheVariants as item
-use Rattle.kernel_records.specs.Words.{CallTree, Leaving, NoticeList, ProcessTable, is_idle, is_pool, is_waiting_stage, kept_notices, left_calls, left_notices, left_threads, live_calls, numbers_where, parked_at, state_in, thread_at, tid}
-use Rattle.written_kernel.specs.Types.{Call, Door, Item, Notice, Obj, Parked, Pool}
-use Rattle.written_kernel.specs.Words.{objects_in_call}
+use Rattle.spec_records.specs.Words.{CallTree, Leaving, NoticeList, ProcessTable, is_idle, is_pool, is_waiting_stage, kept_notices, left_calls, left_notices, left_threads, live_calls, numbers_where, parked_at, state_in, thread_at, tid}
+use Rattle.spec_kernel.specs.Types.{Call, Door, Item, Notice, Obj, Parked, Pool}
+use Rattle.spec_kernel.specs.Words.{objects_in_call}
 use Rattle.server_pool.specs.Words.{PoolsValue, is_item, is_waiting_at, item_room_in, queue_in, thread_room_in}
 use Rattle.call_tree.specs.Words.{CallsValue, is_ready_of}
-use Rattle.pool_agreement.specs.Words.{Agrees, HasPlaces}
+use Rattle.law_pools.specs.Words.{Agrees, HasPlaces}
 use Rattle.exit_paths.specs.Pools.{HasNoLessRoom, HoldsSame, own_pool_in}
 use Rattle.exit_paths.specs.Queues.{dropped_items}
 use Rattle.exit_paths.specs.Together.{AreTogether}

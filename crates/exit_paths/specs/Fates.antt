@@ -1,9 +1,9 @@
 -- What becomes of a thread where callers are interrupted or end, and threads end, as decided for it.
 use Rattle.std.specs.Prelude.{ℕ, Bool, false, true, List, Option, Some, None, if◌then◌else◌, find}
-use Rattle.kernel_records.specs.declared.record.CallStage.TheVariants as stage
-use Rattle.kernel_records.specs.Words.{Leaving, ProcessTable, cancelled_thread, change_thread, ended_thread, idle_thread, interrupted_where, is_served_by}
+use Rattle.spec_records.specs.declared.record.CallStage.TheVariants as stage
+use Rattle.spec_records.specs.Words.{Leaving, ProcessTable, cancelled_thread, change_thread, ended_thread, idle_thread, interrupted_where, is_served_by}
 use Rattle.call_tree.specs.Words.{is_given}
-use Rattle.written_kernel.specs.Types.{Call, CallStage, Thread}
+use Rattle.spec_kernel.specs.Types.{Call, CallStage, Thread}
 use Rattle.exit_paths.specs.declared.fates.Desertion.{Desertion}
 use Rattle.exit_paths.specs.declared.fates.Desertion.TheVariants.{Stays, Parks, IsCancelled}
 use Rattle.exit_paths.specs.declared.fates.Deserted.{Deserted}

@@ -1,9 +1,9 @@
 -- What becomes of pools where threads park and end, and where waiting items leave.
 use Rattle.std.specs.Prelude.{ℕ, ◌≡◌, ◌+◌, ◌<◌, ◌≤◌, Bool, true, List, Option, filter, is_some, length, not}
-use Rattle.kernel_records.specs.Words.{ProcessTable, bound_at, process_in, thread_at, tid}
-use Rattle.written_kernel.specs.Types.{Pool, Waiting}
+use Rattle.spec_records.specs.Words.{ProcessTable, bound_at, process_in, thread_at, tid}
+use Rattle.spec_kernel.specs.Types.{Pool, Waiting}
 use Rattle.server_pool.specs.Words.{AllParkedBefore, PoolsValue, item_room_in, pool_at, queue_in, spares_of, stack_in, thread_room_in}
-use Rattle.pool_agreement.specs.Words.{pool_by}
+use Rattle.law_pools.specs.Words.{pool_by}
 
 -- the pool in which a thread parks, by the records of threads and their bindings
 abbrev pub own_pool_in : ProcessTable → List (Option ℕ) → ℕ → Pool

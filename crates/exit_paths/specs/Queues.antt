@@ -3,8 +3,8 @@ use Rattle.std.specs.Prelude.{ℕ, zero, suc, ◌≡◌, ◌&&◌, ◌||◌, Boo
 use Rattle.std.specs.List.{list_any}
 use Rattle.dk_base.specs.ByNumber.{at_number}
 use Rattle.dk_base.specs.declared.object.Item.TheVariants as item
-use Rattle.kernel_records.specs.Words.{is_pool, is_queued, pool_in}
-use Rattle.written_kernel.specs.Types.{Call, Door, Item, Pool, Waiting}
+use Rattle.spec_records.specs.Words.{is_pool, is_queued, pool_in}
+use Rattle.spec_kernel.specs.Types.{Call, Door, Item, Pool, Waiting}
 use Rattle.call_tree.specs.Words.{is_called_by}
 use Rattle.server_pool.specs.Words.{PoolsValue, change_pool, drop_door_in, is_waiting_as, is_waiting_at, items_at, items_waiting_at, queue_in}
 

@@ -1,9 +1,9 @@
 -- What threads and the calls that are kept say of each other.
 use Rattle.std.specs.Prelude.{ℕ, ◌≡◌, [], Option, Some, None, true, false, find}
-use Rattle.kernel_records.specs.declared.record.CallStage.TheVariants as stage
-use Rattle.kernel_records.specs.Words.{CallTree, ProcessTable, invocation_in, state_in, thread_at, tid}
-use Rattle.written_kernel.specs.Types.{Call, Inv, Thread, ThreadState}
-use Rattle.kernel_invariant.specs.Coherent.{AreInvocations, AreServers, AreWaits}
+use Rattle.spec_records.specs.declared.record.CallStage.TheVariants as stage
+use Rattle.spec_records.specs.Words.{CallTree, ProcessTable, invocation_in, state_in, thread_at, tid}
+use Rattle.spec_kernel.specs.Types.{Call, Inv, Thread, ThreadState}
+use Rattle.law_states.specs.Coherent.{AreInvocations, AreServers, AreWaits}
 use Rattle.call_tree.specs.Words.{is_call}
 
 -- a call that is not kept: it was answered, or its caller has left it

@@ -1,8 +1,8 @@
 //! What becomes of calls, one after the other, and what leaves transit with them.
 ghost use Rattle.std.specs.Prelude.{◌≡◌, ℕ, ◌≤◌, Bool, List, IsSome, find, false, length};
 ghost use Rattle.dk_base.specs.declared.error.Errno.TheVariants.{EBADF};
-ghost use Rattle.kernel_records.specs.Words.{CallTree, ProcessTable, is_queued_as, leaving_of};
-ghost use Rattle.written_kernel.specs.Types.{Call, Obj};
+ghost use Rattle.spec_records.specs.Words.{CallTree, ProcessTable, is_queued_as, leaving_of};
+ghost use Rattle.spec_kernel.specs.Types.{Call, Obj};
 ghost use Rattle.call_tree.specs.Words.{AreSound, abandon_call, calls_so_far, is_called_by, lose_server, refuse_call};
 ghost use Rattle.call_tree.specs.declared.parts.Leave.TheVariants.{Finished};
 ghost use Rattle.exit_paths.specs.Words.{AreRefused, DropsTransit, HaveEnded, all_left, in_transit, is_thread_of, refused_item};
@@ -17,9 +17,9 @@ use dk_base::list::{ObjList, Room};
 use dk_base::number::{Pid, Tid};
 use dk_base::object::{Item, Obj};
 use door_object::doors::Doors;
-use kernel_records::leaving::Leaver;
 use proc_table::procs::Procs;
 use proc_table::walk::Walk;
+use spec_records::leaving::Leaver;
 use std::alloc::Global;
 
 /// The caller of a call leaves it, if it waits in one. What is no longer in transit is handed out.

@@ -1,7 +1,7 @@
 //! The exit paths.
 ghost use Rattle.std.specs.Prelude.{◌≡◌, ◌≤◌, ℕ, IfOk, OnErr, is_some, true};
 ghost use Rattle.dk_base.specs.ByNumber.{at_number};
-ghost use Rattle.kernel_records.specs.Words.{forking, interruption, process_end, revocation, thread_end};
+ghost use Rattle.spec_records.specs.Words.{forking, interruption, process_end, revocation, thread_end};
 ghost use Rattle.exit_paths.specs.Words.{AreLost, CanExit, HasExited, IsAsBefore, in_transit};
 
 use crate::calls::{end_all, end_caller, end_server, leave_call, refuse_lost};
@@ -18,13 +18,13 @@ use call_tree::parts::Leave;
 use dk_base::error::NoMemory;
 use dk_base::list::{ItemList, Room, TidList};
 use dk_base::number::{Pid, Tid};
+use dk_base::thread_set::ThreadSet;
 use door_object::doors::Doors;
 use fork_step::forking::fork_calls;
-use kernel_records::leaving::Leaver;
 use proc_table::procs::Procs;
 use server_pool::pools::Pools;
+use spec_records::leaving::Leaver;
 use std::alloc::Global;
-use thread_set::set::ThreadSet;
 
 /// A thread is interrupted: its call ends EINTR, unless it was returned or has ended, and its wait for the events of a port is marked.
 /// The thread that was given the call is parked again; the one that is in it is told so by its flag, unless the call's door has

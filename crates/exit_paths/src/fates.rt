@@ -1,25 +1,25 @@
 //! What becomes of threads and of their pools where callers are interrupted, threads end and doors are lost.
 ghost use Rattle.std.specs.Prelude.{◌≡◌, ℕ, ◌+◌, ◌<◌, ◌≤◌, List, IfSome, OnOk, false, true, find, is_some, length};
 ghost use Rattle.dk_base.specs.declared.limits.TheConstants.{THREADS_MAX};
-ghost use Rattle.kernel_records.specs.Words.{CallTree, NoticeList, change_thread, deserted_in, end_thread, interrupted_where, is_fellow_caller, is_served_by, leaving_of, left_thread_of, left_threads, parked_at, park_thread, thread_at};
-ghost use Rattle.written_kernel.specs.Types.{Door, Parked, Pool, Thread};
+ghost use Rattle.spec_records.specs.Words.{CallTree, NoticeList, change_thread, deserted_in, end_thread, interrupted_where, is_fellow_caller, is_served_by, leaving_of, left_thread_of, left_threads, parked_at, park_thread, thread_at};
+ghost use Rattle.spec_kernel.specs.Types.{Door, Parked, Pool, Thread};
 ghost use Rattle.server_pool.specs.Words.{AllParkedBefore, pool_at, stack_in, thread_room_in};
 ghost use Rattle.call_tree.specs.Words.{caller_among, is_called_by};
-ghost use Rattle.pool_agreement.specs.Words.{Agrees, AgreesSomehow};
+ghost use Rattle.law_pools.specs.Words.{Agrees, AgreesSomehow};
 ghost use Rattle.proc_table.specs.Words.{is_of};
-ghost use Rattle.thread_set.specs.Words.{has};
+ghost use Rattle.dk_base.specs.Words.{has};
 ghost use Rattle.exit_paths.specs.Words.{CanParkAgain, HasNoLessRoom, HoldsSame, KeepsItems, deserted_as, deserted_in_call, fated, own_pool_in, parked_of, parks_again, serves_given, with_deserted, with_interrupted, woken_of};
 
 use crate::who_leaves::{ends, own_pool};
 use call_tree::calls::Calls;
 use dk_base::error::NoMemory;
 use dk_base::number::{Pid, Tid};
-use kernel_records::leaving::Leaver;
-use kernel_records::record::{CallStage, ThreadState};
+use dk_base::thread_set::ThreadSet;
 use proc_table::procs::Procs;
 use proc_table::walk::Walk;
 use server_pool::pools::Pools;
-use thread_set::set::ThreadSet;
+use spec_records::leaving::Leaver;
+use spec_records::record::{CallStage, ThreadState};
 
 // threads
 

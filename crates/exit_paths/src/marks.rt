@@ -1,18 +1,18 @@
 //! Which threads became idle, and whose calls can be collected anew: what was so before threads leave, compared with what is so after it.
 ghost use Rattle.std.specs.Prelude.{◌≡◌, ℕ, ◌<◌, ◌≤◌, ◌&&◌, ◌==◌, Bool, [], IfOk, not};
 ghost use Rattle.dk_base.specs.declared.limits.TheConstants.{THREADS_MAX};
-ghost use Rattle.kernel_records.specs.Words.{is_idle};
+ghost use Rattle.spec_records.specs.Words.{is_idle};
 ghost use Rattle.exit_paths.specs.Exits.{is_idle_at, threads_where};
-ghost use Rattle.thread_set.specs.Words.{has};
+ghost use Rattle.dk_base.specs.Words.{has};
 
 use dk_base::error::NoMemory;
 use dk_base::limits::THREADS_MAX;
 use dk_base::list::{Room, TidList};
 use dk_base::number::Tid;
-use kernel_records::record::ThreadState;
+use dk_base::thread_set::ThreadSet;
 use proc_table::procs::Procs;
+use spec_records::record::ThreadState;
 use std::alloc::Global;
-use thread_set::set::ThreadSet;
 
 fn is_idle(state: &ThreadState) -> bool
     ensures { result ≡ is_idle state.now }

@@ -3,9 +3,9 @@ ghost use Rattle.std.specs.Prelude.{◌≡◌, ℕ, ◌≤◌, ◌++◌, ◌==�
 ghost use Rattle.std.specs.List.{list_any};
 ghost use Rattle.dk_base.specs.ByNumber.{at_number};
 ghost use Rattle.dk_base.specs.declared.limits.TheConstants.{THREADS_MAX};
-ghost use Rattle.thread_set.specs.Words.{has};
-ghost use Rattle.kernel_records.specs.Words.{is_pool, pool_in};
-ghost use Rattle.written_kernel.specs.Types.{Pool, Waiting};
+ghost use Rattle.dk_base.specs.Words.{has};
+ghost use Rattle.spec_records.specs.Words.{is_pool, pool_in};
+ghost use Rattle.spec_kernel.specs.Types.{Pool, Waiting};
 ghost use Rattle.server_pool.specs.Words.{is_waiting_at};
 ghost use Rattle.call_tree.specs.Words.{is_called_by};
 ghost use Rattle.exit_paths.specs.Queues.{Dropped, is_at_lost, is_call_of, is_call_of_any, is_queued_at, waiting_total};
@@ -17,13 +17,13 @@ use dk_base::error::NoMemory;
 use dk_base::list::Room;
 use dk_base::number::{Pid, Tid};
 use dk_base::object::Item;
+use dk_base::thread_set::ThreadSet;
 use door_object::doors::Doors;
-use kernel_records::record::Call;
 use proc_table::procs::Procs;
 use proc_table::walk::Walk;
 use server_pool::pools::Pools;
+use spec_records::record::Call;
 use std::alloc::Global;
-use thread_set::set::ThreadSet;
 
 /// A call leaves the pool of its door, if it waits there. The call itself stays as it is.
 fn withdraw_call(pools: &mut Pools, doors: &Doors, call: &Call)

@@ -1,16 +1,16 @@
 //! Who leaves, of threads and of doors, and the pool in which a thread parks.
 ghost use Rattle.std.specs.Prelude.{◌≡◌, List};
 ghost use Rattle.dk_base.specs.ByNumber.{at_number};
-ghost use Rattle.kernel_records.specs.Words.{ProcessTable, is_owned_by, leaving_of};
-ghost use Rattle.written_kernel.specs.Types.{Door};
+ghost use Rattle.spec_records.specs.Words.{ProcessTable, is_owned_by, leaving_of};
+ghost use Rattle.spec_kernel.specs.Types.{Door};
 ghost use Rattle.exit_paths.specs.Words.{own_pool_in};
 
 use dk_base::number::{Pid, Tid};
 use door_object::doors::Doors;
-use kernel_records::leaving::Leaver;
-use kernel_records::pool::Pool;
 use proc_table::procs::Procs;
 use server_pool::pools::Pools;
+use spec_records::leaving::Leaver;
+use spec_records::pool::Pool;
 
 /// Whether a thread ends.
 pub fn ends(who: Leaver, processes: &Procs, t: Tid) -> bool

@@ -8,8 +8,8 @@ use crate::place_fault::PlaceFault;
 use crate::report::Report;
 use crate::text_fault::{ByteFault, HeaderFault};
 use crate::words::{begins_with_digit, word_at};
-use script_line::reason::Reason;
-use script_text::number::{Number, bounded_number};
+use line_forms::reason::Reason;
+use line_text::number::{Number, bounded_number};
 use std::alloc::Global;
 use std::fmt;
 

@@ -10,7 +10,7 @@ use crate::run_told::{tell_budget, tell_others, tell_refused, tell_stalled};
 use crate::trace_told::{Verdict, tell_no_turn};
 use dk_base::error::NoMemory;
 use dk_base::list::Bytes;
-use script_line::reason::Reason;
+use line_forms::reason::Reason;
 use std::alloc::Global;
 
 /// What an input of `check` is.

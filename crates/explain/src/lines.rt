@@ -5,7 +5,7 @@ ghost use Rattle.std.specs.Iterator.{at_most};
 
 use crate::form::{Form, form_of};
 use crate::words::{Words, word_at};
-use script_text::lines::next_line;
+use line_text::lines::next_line;
 
 /// A line of a text.
 #[derive(Clone, Copy)]

@@ -2,12 +2,12 @@
 
 use crate::report::Report;
 use dk_base::limits::{ADVANCE_MAX, BUDGET_MAX, DATA_MAX, DELAY_MAX, DESCRIPTORS_MAX, TIMERS_MAX};
-use script_line::enumerated::{cond_of, mode_of, op_of, param_of};
-use script_line::sets::{poll_of, with_attribute};
-use script_text::names::is_name;
-use script_text::number::{Number, bounded_number};
-use script_text::parts::{part_before_last, parts_at};
-use script_text::string::string_of;
+use line_forms::enumerated::{cond_of, mode_of, op_of, param_of};
+use line_forms::sets::{poll_of, with_attribute};
+use line_text::names::is_name;
+use line_text::number::{Number, bounded_number};
+use line_text::parts::{part_before_last, parts_at};
+use line_text::string::string_of;
 use std::alloc::Global;
 
 /// What is wanted at a place of a line.

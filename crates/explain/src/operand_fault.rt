@@ -7,7 +7,7 @@ use crate::report::Report;
 use crate::shown::{Marked, Shown};
 use crate::slip::Slip;
 use crate::words::{Word, Words};
-use script_text::number::Number;
+use line_text::number::Number;
 use std::alloc::Global;
 use std::fmt;
 

@@ -7,7 +7,7 @@ use crate::shown::Shown;
 use crate::walk::{Opener, Place, Walk};
 use crate::warnings::Warner;
 use crate::words::word_at;
-use script_text::number::{Number, bounded_number};
+use line_text::number::{Number, bounded_number};
 use std::alloc::Global;
 use std::fmt;
 

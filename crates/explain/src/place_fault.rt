@@ -5,7 +5,7 @@ use crate::outline::{Outline, Spot};
 use crate::shown::{Marked, Shown};
 use crate::walk::{Opener, Place};
 use crate::words::{Words, has_capital, has_one_of};
-use script_line::reason::Reason;
+use line_forms::reason::Reason;
 use std::fmt;
 
 /// A line begins with a word that has no place there, or the text ends where it cannot.

@@ -1,7 +1,7 @@
 //! Bytes and lines of a text as they are shown.
 
 use crate::words::Word;
-use script_text::string::is_printable;
+use line_text::string::is_printable;
 use std::fmt;
 
 /// Of longer words and lines the first bytes are shown.

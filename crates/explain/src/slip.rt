@@ -3,7 +3,7 @@
 use crate::operand::{Class, Operand};
 use crate::shown::Shown;
 use crate::words::{begins_with_digit, has_capital, has_one_of};
-use script_text::names::is_name;
+use line_text::names::is_name;
 use std::fmt;
 
 /// What went wrong in a word.

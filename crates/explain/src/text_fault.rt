@@ -3,7 +3,7 @@
 use crate::lines::Line;
 use crate::shown::{Marked, Shown};
 use crate::words::{Word, word_at};
-use script_text::string::is_printable;
+use line_text::string::is_printable;
 use std::fmt;
 
 /// A byte that no script has.

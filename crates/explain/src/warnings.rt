@@ -6,7 +6,7 @@ use crate::operand::Operand;
 use crate::report::Report;
 use crate::shown::{Marked, Shown};
 use crate::words::{Word, Words};
-use script_text::parts::{part_before_last, parts_at};
+use line_text::parts::{part_before_last, parts_at};
 use std::alloc::Global;
 use std::fmt;
 

@@ -2,10 +2,10 @@
 
 ghost use Rattle.std.specs.Prelude.{length};
 ghost use Rattle.std.specs.Iterator.{at_most};
-ghost use Rattle.script_text.specs.Words.{words_of};
+ghost use Rattle.line_text.specs.Words.{words_of};
 
-use script_text::number::is_digit;
-use script_text::words::next_word;
+use line_text::number::is_digit;
+use line_text::words::next_word;
 
 /// A word of a line; where one is missing it has no bytes.
 #[derive(Clone, Copy)]

@@ -3,7 +3,7 @@ use Rattle.std.proofs.Common.{◌≡◌, ℕ, ◌+◌, ◌<◌, List, [], ◌∷
 use Rattle.std.proofs.lemmas.List.{append-nil, drop_all, length-map, take_all, take_more}
 use Rattle.std.proofs.lemmas.List.Elements.{filter_map-append}
 use Rattle.dk_base.specs.declared.object.Obj.{Obj}
-use Rattle.kernel_records.specs.Words.{close_table, free_row, objects_of, row_object}
+use Rattle.spec_records.specs.Words.{close_table, free_row, objects_of, row_object}
 
 objects_more :
     (t : List (Option Obj)) (i : ℕ) (row : Option Obj) → i < length t → get_or t i None ≡ row →

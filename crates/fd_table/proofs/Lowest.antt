@@ -6,7 +6,7 @@ use Rattle.std.proofs.lemmas.Bool.Decides.{nat_tests}
 use Rattle.std.proofs.lemmas.List.Folds.{sum_by-replicate}
 use Rattle.std.proofs.lemmas.List.Sums.{sum_by-cons, sum_by-set, passes_at_first, count_by-le-length}
 use Rattle.dk_base.specs.declared.object.Obj.{Obj}
-use Rattle.kernel_records.specs.Words.{close_table, empty_table, free_place, free_rows, insert_row, lowest_free, object_in}
+use Rattle.spec_records.specs.Words.{close_table, empty_table, free_place, free_rows, insert_row, lowest_free, object_in}
 use Rattle.fd_table.specs.Rows.{lowest_row}
 
 pub lowest_within : (t : List (Option Obj)) → lowest_row t ≤ length t

@@ -3,7 +3,7 @@ use Rattle.std.specs.Prelude.{List, [], ◌∷◌, Option, Some, None, is_none}
 use Rattle.dk_base.specs.declared.error.Errno.TheVariants.{EBADF, EMFILE}
 use Rattle.dk_base.specs.declared.number.Fd.{Fd}
 use Rattle.dk_base.specs.declared.object.Obj.{Obj}
-use Rattle.kernel_records.specs.Words.{Test, insert_row, lowest_free, object_named, refused_where}
+use Rattle.spec_records.specs.Words.{Test, insert_row, lowest_free, object_named, refused_where}
 
 abbrev pub dup_tests : List (Option Obj) → Fd → List Test
 dup_tests table fd =

@@ -1,6 +1,6 @@
 //! The rows of a table, one for each descriptor.
 ghost use Rattle.std.specs.Prelude.{◌≡◌, ◌+◌, ◌≤◌, ◌++◌, length};
-ghost use Rattle.kernel_records.specs.Words.{close_table, lowest_free, objects_of};
+ghost use Rattle.spec_records.specs.Words.{close_table, lowest_free, objects_of};
 ghost use Rattle.fd_table.specs.Rows.{ROWS_MAX, lowest_row};
 
 use dk_base::list::Room;

@@ -1,6 +1,6 @@
 //! The table of a process's descriptors.
 ghost use Rattle.std.specs.Prelude.{◌≡◌, ◌+◌, ◌<◌, ◌≤◌, ◌++◌, List, Option, Some, None, IfOk, IfErr, OnOk, OnErr, is_none, is_some, length, true};
-ghost use Rattle.kernel_records.specs.Words.{close_row, close_table, descriptor, empty_table, first_refusal, free_place, free_rows, insert_row, insert_rows, lowest_free, new_descriptors, object_named, objects_of, with_row};
+ghost use Rattle.spec_records.specs.Words.{close_row, close_table, descriptor, empty_table, first_refusal, free_place, free_rows, insert_row, insert_rows, lowest_free, new_descriptors, object_named, objects_of, with_row};
 ghost use Rattle.fd_table.specs.Duplicated.{dup_row, dup_tests};
 
 use crate::rows::{close_rows, list_objects, lowest_from};
@@ -25,7 +25,7 @@ pub struct FdTable {
 impl Model for FdTable {
     ghost use Rattle.std.specs.Prelude.{◌≡◌, ◌≤◌, List, Option, length};
     ghost use Rattle.dk_base.specs.declared.object.Obj.{Obj};
-    ghost use Rattle.kernel_records.specs.Words.{free_rows};
+    ghost use Rattle.spec_records.specs.Words.{free_rows};
     ghost use Rattle.fd_table.specs.Rows.{ROWS_MAX, lowest_row};
 
     ghost Value = { List (Option Obj) };

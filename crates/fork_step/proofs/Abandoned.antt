@@ -4,8 +4,8 @@ use Rattle.std.proofs.lemmas.Bool.Decides.{nat_tests}
 use Rattle.std.proofs.lemmas.List.Concat.{flat_map-cons}
 use Rattle.std.specs.Option.{option_map, option_to_list}
 use Rattle.dk_base.specs.declared.number.Tid.{Tid}
-use Rattle.kernel_records.specs.declared.record.Call.{Call}
-use Rattle.kernel_records.specs.Words.{CallTree, change_first, is_live_call, left_call, tid}
+use Rattle.spec_records.specs.declared.record.Call.{Call}
+use Rattle.spec_records.specs.Words.{CallTree, change_first, is_live_call, left_call, tid}
 use Rattle.call_tree.specs.Words.{AreLive, abandon_call, dropped_objects, is_called_by, leaving_for, transit_in}
 use Rattle.call_tree.specs.declared.parts.Leave.TheVariants.{Interrupted}
 

@@ -3,7 +3,7 @@ use Rattle.std.proofs.Common.{◌≡◌, ℕ, zero, suc, ◌<◌, ◌≤◌, Lis
 use Rattle.std.proofs.Common.{slice_get, slice_set}
 use Rattle.std.specs.Option.{option_to_list}
 use Rattle.dk_base.specs.declared.object.Obj.{Obj}
-use Rattle.kernel_records.specs.Words.{object_in, objects_of}
+use Rattle.spec_records.specs.Words.{object_in, objects_of}
 
 -- the first n rows are those of the first table
 abbrev pub copied : ℕ → List (Option Obj) → List (Option Obj) → List (Option Obj)

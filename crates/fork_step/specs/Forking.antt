@@ -3,7 +3,7 @@ use Rattle.std.specs.Prelude.{ℕ, ◌++◌, List, [], ◌∷◌, Option, Some, 
 use Rattle.std.specs.Option.{option_to_list}
 use Rattle.dk_base.specs.declared.number.Tid.{Tid}
 use Rattle.dk_base.specs.declared.object.Obj.{Obj}
-use Rattle.kernel_records.specs.Words.{CallTree, bind_lost, bound_at, tid}
+use Rattle.spec_records.specs.Words.{CallTree, bind_lost, bound_at, tid}
 use Rattle.call_tree.specs.declared.parts.Leave.TheVariants.{Interrupted}
 use Rattle.call_tree.specs.Words.{abandon_call, cancelled_by, dropped_objects, is_called_by, parked_thread}
 

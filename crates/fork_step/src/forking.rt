@@ -2,8 +2,8 @@
 ghost use Rattle.std.specs.Prelude.{◌≡◌, ◌+◌, ◌<◌, ◌≤◌, ◌++◌, [], false, None, IfSome, flat_map, length};
 ghost use Rattle.std.specs.List.{list_any};
 ghost use Rattle.std.specs.Option.{option_to_list};
-ghost use Rattle.kernel_records.specs.Words.{object_named, objects_of, with_row};
-ghost use Rattle.kernel_records.specs.declared.pool.Pool.{Pool};
+ghost use Rattle.spec_records.specs.Words.{object_named, objects_of, with_row};
+ghost use Rattle.spec_records.specs.declared.pool.Pool.{Pool};
 ghost use Rattle.server_pool.specs.Words.{is_thread, stack_in};
 ghost use Rattle.call_tree.specs.Words.{transit_in};
 ghost use Rattle.fork_step.specs.Forking.{abandon_each, after_one, bindings_of_child, cancelled_by_each, cancelled_by_one, dropped_by_each, dropped_by_one, parked_by_each, parked_by_one};

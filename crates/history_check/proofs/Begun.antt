@@ -1,7 +1,7 @@
 -- A history that begins has had no event, and no time has passed.
 use Rattle.std.proofs.Common.{◌≡◌, ℕ, ◌+◌, List, [], ◌∷◌, Option, Some, None, refl, ◌∙◌}
-use Rattle.written_kernel.specs.Types.{Pid}
-use Rattle.written_kernel.specs.Words.{State, no_process, opening, with_new_process, with_new_thread, with_processes}
+use Rattle.spec_kernel.specs.Types.{Pid}
+use Rattle.spec_kernel.specs.Words.{State, no_process, opening, with_new_process, with_new_thread, with_processes}
 use Rattle.std.specs.Prelude.{map}
 use Rattle.spec_histories.specs.Openings.{limit_of, opening_of, with_children, with_parent, with_threads}
 use Rattle.spec_histories.specs.declared.opening.OpeningProcess.{OpeningProcess}

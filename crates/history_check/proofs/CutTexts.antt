@@ -1,7 +1,7 @@
 -- A text that is cut after a line feed.
 use Rattle.std.proofs.Common.{◌≡◌, ℕ, ◌+◌, ◌==◌, Bool, true, false, List, [], ◌∷◌, ◌++◌, Option, Some, None, refl, sym, ap, ◌∙◌, subst}
 use Rattle.std.specs.Prelude.{if◌then◌else◌}
-use Rattle.script_text.specs.Words.{is_one_line}
+use Rattle.line_text.specs.Words.{is_one_line}
 use Rattle.history_text.specs.Types.{Reason}
 use Rattle.history_check.specs.declared.verdict.Verdict.{Verdict}
 use Rattle.history_check.specs.declared.verdict.Verdict.TheVariants.{Legal}

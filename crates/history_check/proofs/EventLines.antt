@@ -1,8 +1,8 @@
 -- What is found at an event, by what its thread may do.
 use Rattle.std.proofs.Common.{◌≡◌, ℕ, Bool, true, false, List, Some, Result, Ok, Err, IfOk, refl}
 use Rattle.std.specs.Prelude.{bytes_eq, codes}
-use Rattle.written_kernel.specs.Types.{Request, Tid}
-use Rattle.written_kernel.specs.Words.{Turn}
+use Rattle.spec_kernel.specs.Types.{Request, Tid}
+use Rattle.spec_kernel.specs.Words.{Turn}
 use Rattle.spec_histories.specs.Histories.{History, entry_of, grown}
 use Rattle.history_text.specs.declared.line.Asked.TheVariants.{Enter, GoOn}
 use Rattle.history_text.specs.declared.place.Stage.TheVariants.{Body}

@@ -3,7 +3,7 @@ use Rattle.std.proofs.Common.{◌≡◌, ℕ, ◌+◌, ◌-◌, ◌<◌, ◌≤�
 use Rattle.std.specs.List.{position_or_len}
 use Rattle.std.proofs.lemmas.List.{take_rest}
 use Rattle.std.proofs.lemmas.Grind.{common_steps}
-use Rattle.script_text.specs.Words.{is_one_line}
+use Rattle.line_text.specs.Words.{is_one_line}
 use Rattle.history_check.specs.WholeLines.{cut_part, whole_lines}
 
 abbrev line_len : List ℕ → ℕ

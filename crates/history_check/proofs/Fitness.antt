@@ -5,9 +5,9 @@ use Rattle.std.proofs.lemmas.Bool.{and_parts}
 use Rattle.std.proofs.lemmas.Bool.Decides.{nat_tests}
 use Rattle.dk_base.specs.declared.limits.TheConstants.{ADVANCE_MAX, CLOCK_MAX, DATA_MAX, DELAY_MAX, EVENTS_MAX}
 use Rattle.dk_base.specs.declared.request.Request.TheVariants as request
-use Rattle.kernel_records.specs.Words.{pid}
-use Rattle.written_kernel.specs.Types.{Pid, Request}
-use Rattle.written_kernel.specs.Words.{IsFit, MayEnter, MayGoOn, State, is_runnable, is_running, parent_of, process_of}
+use Rattle.spec_records.specs.Words.{pid}
+use Rattle.spec_kernel.specs.Types.{Pid, Request}
+use Rattle.spec_kernel.specs.Words.{IsFit, MayEnter, MayGoOn, State, is_runnable, is_running, parent_of, process_of}
 use Rattle.history_check.specs.Turns.{is_fit, is_number_of, is_process, may_enter, may_go_on}
 
 number_is : (count n : ℕ) → is_number_of count n ≡ true → (1 ≤ n) × (n ≤ count)

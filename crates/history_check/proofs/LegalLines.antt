@@ -3,8 +3,8 @@ use Rattle.std.proofs.Common.{◌≡◌, ℕ, ◌+◌, Bool, true, false, List, 
 use Rattle.std.specs.Prelude.{bytes_eq, filter, not, if◌then◌else◌}
 use Rattle.std.specs.List.{AllByRecursion}
 use Rattle.std.proofs.lemmas.Slice.Eq.{bytes_eq-Decides}
-use Rattle.script_line.specs.declared.reason.Reason.{Reason}
-use Rattle.script_line.specs.declared.reason.Reason.TheVariants.{Header}
+use Rattle.line_forms.specs.declared.reason.Reason.{Reason}
+use Rattle.line_forms.specs.declared.reason.Reason.TheVariants.{Header}
 use Rattle.spec_histories.specs.Histories.{IsHistory}
 use Rattle.history_text.specs.Laws.{ReadIsWritten}
 use Rattle.history_text.specs.declared.line.Line.{Line}

@@ -1,6 +1,6 @@
 -- What stands before the line that a verdict names is legal.
 use Rattle.std.proofs.Common.{◌≡◌, ℕ, ◌+◌, ◌-◌, ◌≤◌, suc, List, [], ◌∷◌, Option, Some, None, take, refl, sym, subst, arith}
-use Rattle.script_line.specs.declared.reason.Reason.{Reason}
+use Rattle.line_forms.specs.declared.reason.Reason.{Reason}
 use Rattle.history_check.specs.Judging.{Found, found_at}
 use Rattle.history_check.specs.Places.{Reached, at_start, state_of}
 use Rattle.history_check.specs.Verdicts.{header_fault, line_found, verdict, verdict_after, verdict_from, verdict_of_lines, verdict_unless}

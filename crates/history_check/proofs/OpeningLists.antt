@@ -3,8 +3,8 @@ use Rattle.std.proofs.Common.{◌≡◌, ℕ, ◌+◌, ◌<◌, Bool, List, [], 
 use Rattle.std.specs.Prelude.{option_and_then, slice_get}
 use Rattle.std.proofs.lemmas.Option.{slice_get-get_or}
 use Rattle.dk_base.specs.ByNumber.{at_number}
-use Rattle.kernel_records.proofs.Lists.{at_number-suc}
-use Rattle.written_kernel.specs.Types.{Pid}
+use Rattle.spec_records.proofs.Lists.{at_number-suc}
+use Rattle.spec_kernel.specs.Types.{Pid}
 use Rattle.spec_histories.specs.declared.opening.OpeningProcess.{OpeningProcess}
 use Rattle.spec_histories.specs.declared.opening.OpeningThread.{OpeningThread}
 use Rattle.history_text.specs.declared.named.NamedProcess.{NamedProcess}

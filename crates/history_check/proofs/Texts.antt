@@ -1,6 +1,6 @@
 -- The verdict on lines, one after the other.
 use Rattle.std.proofs.Common.{◌≡◌, ℕ, ◌+◌, List, [], ◌∷◌, Some, None, Result, IfOk, refl, sym, ap, ◌∙◌, subst}
-use Rattle.script_line.specs.declared.reason.Reason.{Reason}
+use Rattle.line_forms.specs.declared.reason.Reason.{Reason}
 use Rattle.spec_histories.specs.Histories.{IsHistory}
 use Rattle.history_check.specs.declared.verdict.Verdict.{Verdict}
 use Rattle.history_check.specs.declared.verdict.Verdict.TheVariants.{Bad, Illegal, Legal}

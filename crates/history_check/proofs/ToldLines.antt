@@ -2,8 +2,8 @@
 use Rattle.std.proofs.Common.{◌≡◌, ℕ, Bool, true, false, List, Some, None, Ok, refl, sym, ap, ◌∙◌, subst}
 use Rattle.std.specs.Prelude.{bytes_eq, if◌then◌else◌}
 use Rattle.std.proofs.lemmas.Slice.Eq.{bytes_eq-Decides}
-use Rattle.written_kernel.specs.Types.{Request, Tid}
-use Rattle.written_kernel.specs.Words.{MayTurn, State, Turn}
+use Rattle.spec_kernel.specs.Types.{Request, Tid}
+use Rattle.spec_kernel.specs.Words.{MayTurn, State, Turn}
 use Rattle.dk_base.specs.declared.event.What.{What}
 use Rattle.spec_histories.specs.Histories.{Entry, Follows, entry_of}
 use Rattle.history_text.specs.Laws.{ReadIsWritten}

@@ -4,8 +4,8 @@ use Rattle.std.specs.Prelude.{OnOk, Result, Ok, Err, nat_le, option_map, slice_g
 use Rattle.std.proofs.lemmas.Bool.{and_parts}
 use Rattle.std.proofs.lemmas.Bool.Decides.{nat_tests}
 use Rattle.dk_base.specs.declared.request.Request.TheVariants as request
-use Rattle.script_requests.specs.Words.{answer_text}
-use Rattle.written_kernel.specs.Types.{Answer, Request, Tid}
+use Rattle.spec_requests.specs.Words.{answer_text}
+use Rattle.spec_kernel.specs.Types.{Answer, Request, Tid}
 use Rattle.history_text.specs.Changes.{mentioned_by, with_line, with_mention, with_request_mention}
 use Rattle.history_text.specs.Lookups.{procedure_word, process_of}
 use Rattle.history_text.specs.declared.named.NamedProcedure.{NamedProcedure}

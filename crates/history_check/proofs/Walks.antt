@@ -4,8 +4,8 @@ use Rattle.dk_base.specs.declared.error.NoMemory.{NoMemory}
 use Rattle.line_reader.specs.declared.fault.Fault.{Fault}
 use Rattle.line_reader.specs.declared.fault.Fault.TheVariants as fault
 use Rattle.line_reader.specs.OperandContracts.{Fails}
-use Rattle.script_line.specs.declared.reason.Reason.{Reason}
-use Rattle.written_kernel.specs.Types.{Tid}
+use Rattle.line_forms.specs.declared.reason.Reason.{Reason}
+use Rattle.spec_kernel.specs.Types.{Tid}
 use Rattle.spec_histories.specs.Histories.{History}
 use Rattle.history_text.specs.declared.line.Asked.{Asked}
 use Rattle.history_text.specs.declared.line.Line.{Line}

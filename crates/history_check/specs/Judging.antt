@@ -1,13 +1,13 @@
 -- What is found at a line.
 use Rattle.std.specs.Prelude.{ℕ, Bool, true, false, List, Option, Some, None, Result, Ok, Err, bytes_eq, codes, if◌then◌else◌}
-use Rattle.written_kernel.specs.Words.{Turn}
+use Rattle.spec_kernel.specs.Words.{Turn}
 use Rattle.spec_histories.specs.Histories.{entry_of}
 use Rattle.history_text.specs.declared.line.Asked.TheVariants.{Enter, GoOn}
 use Rattle.history_text.specs.declared.line.Line.TheVariants.{Process, Child, Event, End}
 use Rattle.history_text.specs.declared.line.Asked.{Asked}
 use Rattle.history_text.specs.declared.line.Line.{Line}
-use Rattle.script_line.specs.declared.reason.Reason.{Reason}
-use Rattle.written_kernel.specs.Types.{Tid}
+use Rattle.line_forms.specs.declared.reason.Reason.{Reason}
+use Rattle.spec_kernel.specs.Types.{Tid}
 use Rattle.history_text.specs.Words.{Names, byte_fault, entry_text, is_skipped, line_read, line_text, with_line}
 use Rattle.history_check.specs.Places.{Reached, at_end, in_body, in_head, place_of, state_of, with_entry}
 use Rattle.history_check.specs.Turns.{end_line, may_enter, may_go_on}

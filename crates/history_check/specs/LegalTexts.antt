@@ -2,7 +2,7 @@
 -- what is written of it is read as it.
 use Rattle.std.specs.Prelude.{ℕ, ◌≡◌, Bool, true, false, not, List, [], ◌∷◌, Option, Some, None, Ok, filter}
 use Rattle.std.specs.List.{AllByRecursion}
-use Rattle.written_kernel.specs.Words.{Turn}
+use Rattle.spec_kernel.specs.Words.{Turn}
 use Rattle.spec_histories.specs.Histories.{Entry, Follows, IsHistory}
 use Rattle.history_text.specs.declared.line.Asked.{Asked}
 use Rattle.history_text.specs.declared.line.Asked.TheVariants.{Enter, GoOn}

@@ -1,6 +1,6 @@
 -- The state in which a history begins, by the names that are declared before its first event.
 use Rattle.std.specs.Prelude.{List, map}
-use Rattle.written_kernel.specs.Words.{State}
+use Rattle.spec_kernel.specs.Words.{State}
 use Rattle.spec_histories.specs.Openings.{opening_of}
 use Rattle.spec_histories.specs.declared.opening.OpeningProcess.{OpeningProcess}
 use Rattle.spec_histories.specs.declared.opening.OpeningThread.{OpeningThread}

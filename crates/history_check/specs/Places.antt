@@ -1,7 +1,7 @@
 -- What the lines so far have come to.
 use Rattle.std.specs.Prelude.{nat_le, nat_lt}
 use Rattle.dk_base.specs.declared.limits.TheConstants.{CLOCK_MAX, EVENTS_MAX}
-use Rattle.written_kernel.specs.Words.{State}
+use Rattle.spec_kernel.specs.Words.{State}
 use Rattle.spec_histories.specs.Histories.{Entry, History, begun, end, grown}
 use Rattle.history_text.specs.declared.place.Place.{Place}
 use Rattle.history_text.specs.declared.place.Stage.{Stage}

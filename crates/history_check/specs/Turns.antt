@@ -2,8 +2,8 @@
 use Rattle.std.specs.Prelude.{ℕ, Bool, true, false, ◌&&◌, ◌==◌, not, nat_le, nat_lt, List, [], ◌∷◌, Option, Some, None, length}
 use Rattle.dk_base.specs.declared.limits.TheConstants.{ADVANCE_MAX, ANSWER_ITEMS_MAX, CLOCK_MAX, DATA_MAX, DELAY_MAX, EVENTS_MAX}
 use Rattle.dk_base.specs.declared.request.Request.TheVariants as request
-use Rattle.written_kernel.specs.Types.{Pid, Request, Tid}
-use Rattle.written_kernel.specs.Words.{State, is_runnable, is_running, least_runnable, parent_of, process_of, waiting_threads}
+use Rattle.spec_kernel.specs.Types.{Pid, Request, Tid}
+use Rattle.spec_kernel.specs.Words.{State, is_runnable, is_running, least_runnable, parent_of, process_of, waiting_threads}
 use Rattle.history_text.specs.declared.line.Ending.TheVariants.{Complete, Stalled, Open}
 use Rattle.history_text.specs.declared.line.Line.TheVariants.{End}
 use Rattle.history_text.specs.declared.line.Ending.{Ending}

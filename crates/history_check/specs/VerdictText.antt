@@ -1,6 +1,6 @@
 -- How a verdict is written.
 use Rattle.std.specs.Prelude.{ℕ, List, [], ◌∷◌, ◌++◌, codes, decimal}
-use Rattle.script_line.specs.Words.{reason_word}
+use Rattle.line_forms.specs.Words.{reason_word}
 use Rattle.history_check.specs.declared.verdict.Verdict.{Verdict}
 use Rattle.history_check.specs.declared.verdict.Verdict.TheVariants.{Legal, Cut, Bad, Illegal}
 

@@ -1,7 +1,7 @@
 -- What a text is found to be: its lines are judged in order, and the first that is bad or illegal is the answer.
 use Rattle.std.specs.Prelude.{ℕ, ◌+◌, List, [], ◌∷◌, Option, Some, None, bytes_eq, if◌then◌else◌}
-use Rattle.script_line.specs.declared.reason.Reason.TheVariants.{Header}
-use Rattle.script_line.specs.declared.reason.Reason.{Reason}
+use Rattle.line_forms.specs.declared.reason.Reason.TheVariants.{Header}
+use Rattle.line_forms.specs.declared.reason.Reason.{Reason}
 use Rattle.spec_histories.specs.Histories.{History}
 use Rattle.history_text.specs.Words.{byte_fault, header}
 use Rattle.history_check.specs.declared.verdict.Verdict.{Verdict}

@@ -1,6 +1,6 @@
 -- A text by its line feeds.
 use Rattle.std.specs.Prelude.{ℕ, ◌==◌, List, [], ◌∷◌, if◌then◌else◌}
-use Rattle.script_text.specs.Words.{is_one_line}
+use Rattle.line_text.specs.Words.{is_one_line}
 
 -- a byte more at the front of the first line, if there is one
 abbrev pub onto_line : ℕ → List (List ℕ) → List (List ℕ)

@@ -14,8 +14,8 @@ use crate::walk::Walk;
 use dk_base::error::NoMemory;
 use dk_base::list::Bytes;
 use history_text::reading::byte_fault;
-use recorded_history::asked::RecordsHistory;
-use script_line::reason::Reason;
+use line_forms::reason::Reason;
+use spec_histories::recorded::RecordsHistory;
 use std::alloc::Global;
 
 fn is_header(line: &[u8]) -> bool

@@ -20,7 +20,7 @@ use dk_base::number::Tid;
 use history_text::line::Ending;
 use history_text::names::Names;
 use history_text::write_end::push_end;
-use recorded_history::asked::RecordsHistory;
+use spec_histories::recorded::RecordsHistory;
 use std::alloc::Global;
 
 /// Leaves the end line of the history so far in `room`.

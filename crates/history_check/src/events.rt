@@ -18,7 +18,7 @@ use dk_base::number::Tid;
 use dk_base::request::Request;
 use history_text::line::Asked;
 use history_text::names::Names;
-use recorded_history::asked::RecordsHistory;
+use spec_histories::recorded::RecordsHistory;
 use std::alloc::Global;
 
 fn is_same_line(have: &[u8], want: &[u8]) -> bool

@@ -1,7 +1,7 @@
 //! What is found at one line of a history.
 
 use dk_base::list::Bytes;
-use script_line::reason::Reason;
+use line_forms::reason::Reason;
 
 /// What is found at a line.
 #[derive(Drop)]

@@ -8,8 +8,8 @@ use dk_base::error::NoMemory;
 use dk_base::list::Sequence;
 use dk_base::number::{Pid, Tid};
 use history_text::names::Names;
-use recorded_history::asked::RecordsHistory;
 use spec_histories::opening::{OpeningProcess, OpeningThread};
+use spec_histories::recorded::RecordsHistory;
 use std::alloc::Global;
 
 /// The processes that are declared.

@@ -6,7 +6,7 @@ ghost use Rattle.history_check.specs.VerdictText.{bad_line_text, verdict_text, w
 use crate::verdict::Verdict;
 use dk_base::error::NoMemory;
 use dk_base::list::Bytes;
-use script_text::writer::Writer;
+use line_text::writer::Writer;
 use std::alloc::Global;
 
 /// Adds a line of a word and a text after it, if any. Want of memory may leave a part of it.

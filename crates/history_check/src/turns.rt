@@ -2,8 +2,8 @@
 
 ghost use Rattle.std.specs.Prelude.{◌≡◌, ◌≤◌, ◌++◌, ℕ, List, None, OnOk, Some, true};
 ghost use Rattle.dk_base.specs.declared.event.What.{What};
-ghost use Rattle.written_kernel.specs.Words.{MayEnter, MayGoOn, now, root, what_of};
-ghost use Rattle.script_requests.specs.Words.{answer_text};
+ghost use Rattle.spec_kernel.specs.Words.{MayEnter, MayGoOn, now, root, what_of};
+ghost use Rattle.spec_requests.specs.Words.{answer_text};
 ghost use Rattle.spec_histories.specs.Histories.{end, grown, next};
 ghost use Rattle.history_text.specs.declared.line.Line.TheVariants.{Event};
 ghost use Rattle.history_text.specs.declared.line.Asked.TheVariants.{Enter, GoOn};
@@ -23,7 +23,7 @@ use history_text::names::Names;
 use history_text::write_event::{
     LEFT_MAX, REQUEST_MAX, entry_in_parts, push_left, push_left_of_wait,
 };
-use recorded_history::asked::RecordsHistory;
+use spec_histories::recorded::RecordsHistory;
 use trace_text::answer::{push_answer, reserve_answer};
 
 /// A running thread may enter with this request.

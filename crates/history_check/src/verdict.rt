@@ -1,7 +1,7 @@
 //! Verdicts on the text of a history.
 
 use dk_base::list::Bytes;
-use script_line::reason::Reason;
+use line_forms::reason::Reason;
 
 /// What the text of a history is found to be. Lines are counted from 1.
 #[derive(Drop)]

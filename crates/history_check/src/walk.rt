@@ -22,7 +22,7 @@ use history_text::names::Names;
 use history_text::place::{Place, Stage};
 use history_text::reading::{byte_fault, is_skipped, read_line};
 use line_reader::fault::Fault;
-use recorded_history::asked::RecordsHistory;
+use spec_histories::recorded::RecordsHistory;
 use std::alloc::Global;
 
 /// What the lines so far have come to. There is a kernel from the first line on that is none of processes and children.

@@ -7,7 +7,7 @@ use Rattle.line_reader.specs.declared.fault.Fault.TheVariants.{Bad}
 use Rattle.line_reader.specs.Combinators.{Reader, Rest, misspelling, pure}
 use Rattle.line_reader.specs.OperandContracts.{Reads}
 use Rattle.line_reader.specs.Types.{Reason}
-use Rattle.script_line.specs.declared.reason.Reason.TheVariants.{Form}
+use Rattle.line_forms.specs.declared.reason.Reason.TheVariants.{Form}
 use Rattle.history_text.specs.Names.{Names}
 use Rattle.history_text.specs.Requests.{request_with}
 

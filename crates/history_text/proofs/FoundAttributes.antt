@@ -5,7 +5,7 @@ use Rattle.std.proofs.lemmas.Slice.Eq.{slice_eq-Decides}
 use Rattle.std.specs.Cmp.{unsigned_Decides}
 use Rattle.std.specs.Cmp.Lexicographic.{pointwise}
 use Rattle.std.specs.Prelude.{◌&&◌, bytes_eq, codes}
-use Rattle.script_line.specs.Sets.{Flag, attribute_flags, attribute_words}
+use Rattle.line_forms.specs.Sets.{Flag, attribute_flags, attribute_words}
 use Rattle.history_text.specs.Operands.{attributes, bits_if, flags_in_order, optional_flag}
 use Rattle.history_text.proofs.Found.{ReadsAs, Spelled, optional_spelled, pure-as, relate-as, spelled_as, then-as, words_if}
 

@@ -7,9 +7,9 @@ use Rattle.dk_base.specs.ByNumber.{at_number}
 use Rattle.dk_base.specs.declared.limits.TheConstants.{DESCRIPTORS_MAX}
 use Rattle.line_reader.specs.Combinators.{Reader, Rest, declared_number, misspelling, next_word, nonempty_list, pure, spelled_value, value_with_rest, ◌>>=◌}
 use Rattle.line_reader.specs.Operands.{is_no_stop, name, name_from_word, number, pid}
-use Rattle.script_line.proofs.Numbering.{no_value, same_some}
-use Rattle.script_requests.specs.Words.{what_word}
-use Rattle.script_text.specs.Words.{is_name}
+use Rattle.line_forms.proofs.Numbering.{no_value, same_some}
+use Rattle.spec_requests.specs.Words.{what_word}
+use Rattle.line_text.specs.Words.{is_name}
 use Rattle.history_text.specs.declared.line.Ending.TheVariants.{Complete, Stalled, Open}
 use Rattle.history_text.specs.declared.line.Line.TheVariants.{Name}
 use Rattle.history_text.specs.declared.place.Kind.TheVariants as kind

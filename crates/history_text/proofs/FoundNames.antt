@@ -9,8 +9,8 @@ use Rattle.dk_base.specs.ByNumber.{at_number}
 use Rattle.line_reader.specs.Types.{Reason}
 use Rattle.line_reader.specs.Combinators.{Rest, declared_number, pure, then_read, ◌>>=◌}
 use Rattle.line_reader.specs.Operands.{name_from_word, path_id, pid, tid}
-use Rattle.script_line.proofs.Numbering.{name_at_place, no_value, same_some}
-use Rattle.script_line.specs.Words.{from_one}
+use Rattle.line_forms.proofs.Numbering.{name_at_place, no_value, same_some}
+use Rattle.line_forms.specs.Words.{from_one}
 use Rattle.history_text.specs.Types.{Pid, Tid}
 use Rattle.history_text.specs.Names.{Names, process_name, thread_name}
 use Rattle.history_text.specs.Lookups.{child_number, if_child_of, is_procedure_called, is_process_called, is_thread_called, parent_of, path_number, path_word, procedure_number, procedure_word, process_number, process_word, thread_number, thread_word}

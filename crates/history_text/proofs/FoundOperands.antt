@@ -6,16 +6,16 @@ use Rattle.std.specs.Prelude.{◌==◌, ◌&&◌, bytes_eq, codes, decimal, map,
 use Rattle.line_reader.specs.Types.{Reason}
 use Rattle.line_reader.specs.Combinators.{Reader, Rest, list_in_range, misspelling, pure, spelled_value, then_read, value_out_of_range, ◌>>=◌}
 use Rattle.line_reader.specs.Operands.{is_no_stop, is_rsize, mode, name, name_from_word, number, number_from_word, number_reader, param, poll}
-use Rattle.script_line.proofs.Numbering.{no_value, same_some}
-use Rattle.script_line.proofs.FlagSearch.{poll_found}
-use Rattle.script_line.specs.FlagWords.{bits_of_flags, flag_word}
-use Rattle.script_line.specs.Sets.{bits_of_word, poll_flags}
-use Rattle.script_line.specs.Words.{greatest_32, greatest_64, mode_of, mode_word, modes, param_of, param_word, params, poll_of, poll_word, value_of_word, value_word, wait_words}
-use Rattle.script_text.proofs.DecimalWords.{number_found}
-use Rattle.script_text.proofs.PartWords.{front_found}
-use Rattle.script_text.specs.declared.number.Number.{Number}
-use Rattle.script_text.specs.declared.number.Number.TheVariants.{Found, OutOfRange, NoNumber}
-use Rattle.script_text.specs.Words.{bounded_number, is_name, part_before_last, quoted_text, string_of}
+use Rattle.line_forms.proofs.Numbering.{no_value, same_some}
+use Rattle.line_forms.proofs.FlagSearch.{poll_found}
+use Rattle.line_forms.specs.FlagWords.{bits_of_flags, flag_word}
+use Rattle.line_forms.specs.Sets.{bits_of_word, poll_flags}
+use Rattle.line_forms.specs.Words.{greatest_32, greatest_64, mode_of, mode_word, modes, param_of, param_word, params, poll_of, poll_word, value_of_word, value_word, wait_words}
+use Rattle.line_text.proofs.DecimalWords.{number_found}
+use Rattle.line_text.proofs.PartWords.{front_found}
+use Rattle.line_text.specs.declared.number.Number.{Number}
+use Rattle.line_text.specs.declared.number.Number.TheVariants.{Found, OutOfRange, NoNumber}
+use Rattle.line_text.specs.Words.{bounded_number, is_name, part_before_last, quoted_text, string_of}
 use Rattle.history_text.specs.Types.{Fd, Pass, PollSet}
 use Rattle.history_text.specs.LineWords.{desc_words, fd_word, pass_word}
 use Rattle.history_text.specs.Operands.{bytes_in_range, canonical_string, fd, fd_from_word, if_canonical, is_greatest, number_32, number_64, pass_from_word, pass_parts, passes, passes_after, ports, released, string, the_word, value, value_from_word, waits, word_after}

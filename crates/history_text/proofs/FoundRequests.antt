@@ -4,9 +4,9 @@ use Rattle.std.specs.Prelude.{codes, decimal}
 use Rattle.dk_base.specs.declared.event.What.TheVariants as what
 use Rattle.dk_base.specs.declared.limits.TheConstants.{ADVANCE_MAX, DELAY_MAX}
 use Rattle.line_reader.specs.Combinators.{Reader, Rest, misspelling, pure, ◌>>=◌}
-use Rattle.script_requests.specs.Words.{what_word}
-use Rattle.script_line.specs.Words.{attribute_words, wait_words}
-use Rattle.script_text.specs.Words.{quoted_text}
+use Rattle.spec_requests.specs.Words.{what_word}
+use Rattle.line_forms.specs.Words.{attribute_words, wait_words}
+use Rattle.line_text.specs.Words.{quoted_text}
 use Rattle.history_text.specs.declared.line.Asked.TheVariants.{Enter}
 use Rattle.history_text.specs.Types.{Fd, PathId, Request, What}
 use Rattle.history_text.specs.LineWords.{asked_words, desc_words, fd_word, request_words}

@@ -1,6 +1,6 @@
 -- A path's line that declares nothing again.
 use Rattle.std.proofs.Common.{◌≡◌, Bool, true, false, ◌||◌, ℕ, List, refl}
-use Rattle.script_text.specs.Words.{has_name}
+use Rattle.line_text.specs.Words.{has_name}
 use Rattle.history_text.specs.Names.{Names}
 
 both_false : (a b : Bool) → (a || b) ≡ false → (a ≡ false) × (b ≡ false)

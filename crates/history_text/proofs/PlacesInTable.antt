@@ -4,10 +4,10 @@ use Rattle.std.specs.Prelude.{position, bytes_eq, nat_lt}
 use Rattle.std.specs.List.{position_or_len, list_any}
 use Rattle.std.specs.declared.vec.Vec.{Vec}
 use Rattle.std.proofs.lemmas.List.{map-append}
-use Rattle.script_text.specs.Words.{has_name}
-use Rattle.script_line.specs.Tables.{is_same}
-use Rattle.script_line.specs.PathNames.{names_as_bytes}
-use Rattle.script_line.proofs.PathSearch.{named_place, named_any}
+use Rattle.line_text.specs.Words.{has_name}
+use Rattle.line_forms.specs.Tables.{is_same}
+use Rattle.line_forms.specs.PathNames.{names_as_bytes}
+use Rattle.line_forms.proofs.PathSearch.{named_place, named_any}
 
 length-names : {Y : Type 0} (keys : List (Vec ℕ Y)) → length (names_as_bytes keys) ≡ length keys
 length-names [] = refl

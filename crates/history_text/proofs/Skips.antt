@@ -5,8 +5,8 @@ use Rattle.line_reader.specs.ListContracts.{next_item}
 use Rattle.line_reader.specs.Operands.{is_no_stop, is_rsize, name_from_word, number_from_word}
 use Rattle.line_reader.proofs.ItemByItem.{IsByItem, items_by_item}
 use Rattle.line_reader.proofs.SkippedWords.{SkipsWords, skips-declared_number, skips-name_from_word, skips-number_from_word, skips-pure, skips-then}
-use Rattle.script_line.specs.Words.{greatest_32}
-use Rattle.script_text.specs.Words.{part_before_last}
+use Rattle.line_forms.specs.Words.{greatest_32}
+use Rattle.line_text.specs.Words.{part_before_last}
 use Rattle.history_text.specs.Names.{Names}
 use Rattle.history_text.specs.Lookups.{thread_number}
 use Rattle.history_text.specs.Operands.{fd_from_word, pass_from_word, pass_parts, thread_from_word}

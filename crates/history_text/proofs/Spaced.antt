@@ -7,9 +7,9 @@ use Rattle.dk_base.specs.declared.request.Param.{Param}
 use Rattle.dk_base.specs.declared.request.Param.TheVariants.{DataMax}
 use Rattle.std.proofs.lemmas.List.{take_all, take_more}
 use Rattle.std.proofs.lemmas.Grind.{flat_map-append}
-use Rattle.script_text.specs.Words.{joined_words, spaced_words}
-use Rattle.script_text.proofs.JoinedWords.{spaced_words-append, joined_first}
-use Rattle.script_line.specs.Words.{mode_word, param_word}
+use Rattle.line_text.specs.Words.{joined_words, spaced_words}
+use Rattle.line_text.proofs.JoinedWords.{spaced_words-append, joined_first}
+use Rattle.line_forms.specs.Words.{mode_word, param_word}
 
 pub spaced_map : {X : Type 0} (word_of : X → List ℕ) (xs : List X) → spaced_words (map word_of xs) ≡ flat_map (λ x. 32 ∷ word_of x) xs
 spaced_map word_of [] = refl

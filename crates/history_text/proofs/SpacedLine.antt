@@ -1,8 +1,8 @@
 -- Words that stand between single spaces.
 use Rattle.std.proofs.Common.{◌≡◌, ℕ, Bool, true, false, List, [], ◌∷◌, ◌++◌, Option, Some, None, refl, ap, sym, ◌∙◌}
 use Rattle.std.specs.Prelude.{bytes_eq}
-use Rattle.script_text.specs.Words.{joined_words, spaced_words}
-use Rattle.script_text.proofs.JoinedWords.{joined_first}
+use Rattle.line_text.specs.Words.{joined_words, spaced_words}
+use Rattle.line_text.proofs.JoinedWords.{joined_first}
 use Rattle.history_text.specs.Events.{after_front}
 use Rattle.history_text.proofs.Fronts.{equal_front, unequal_front}
 

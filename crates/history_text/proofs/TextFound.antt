@@ -6,11 +6,11 @@ use Rattle.std.proofs.lemmas.Slice.Eq.{bytes_eq-Decides}
 use Rattle.std.specs.Prelude.{codes, option_and_then, slice_get}
 use Rattle.line_reader.specs.Types.{Reason}
 use Rattle.line_reader.specs.Combinators.{Rest, rest_of}
-use Rattle.script_line.proofs.Numbering.{no_value, same_some}
-use Rattle.script_line.specs.declared.reason.Reason.TheVariants.{Form, Many, Twice, Unknown}
-use Rattle.script_line.specs.Words.{value_of_word}
-use Rattle.script_requests.specs.Words.{what_word}
-use Rattle.script_text.specs.Words.{is_decimal, joined_words, words_of}
+use Rattle.line_forms.proofs.Numbering.{no_value, same_some}
+use Rattle.line_forms.specs.declared.reason.Reason.TheVariants.{Form, Many, Twice, Unknown}
+use Rattle.line_forms.specs.Words.{value_of_word}
+use Rattle.spec_requests.specs.Words.{what_word}
+use Rattle.line_text.specs.Words.{is_decimal, joined_words, words_of}
 use Rattle.history_text.specs.declared.place.Kind.TheVariants as kind
 use Rattle.history_text.specs.Types.{Kind, Line, Place, Stage, What}
 use Rattle.history_text.specs.Events.{after_front, after_words, answer_of, event_after, event_as, event_by_fourth, event_line, if_answer, is_answer, is_equals_sign, words_asked, words_before_sign}

@@ -5,8 +5,8 @@ use Rattle.history_text.specs.declared.limits.TheConstants.{PATH_TEXT_MAX}
 use Rattle.history_text.specs.declared.line.Ending.TheVariants.{Complete, Stalled, Open}
 use Rattle.history_text.specs.declared.line.Line.TheVariants.{Process, Child, Name, Procedure, Path, End}
 use Rattle.line_reader.specs.Words.{Reader, declared_number, is_no_stop, items_to, misspelling, name, nonempty_list, number, next_word, pid, pure, spelled_value, value_at_end, value_with_rest, ◌>>=◌}
-use Rattle.script_line.specs.Words.{value_of_word}
-use Rattle.script_text.specs.Words.{is_name}
+use Rattle.line_forms.specs.Words.{value_of_word}
+use Rattle.line_text.specs.Words.{is_name}
 use Rattle.history_text.specs.Types.{Ending, Line, Member, Pid, Tid}
 use Rattle.history_text.specs.LineWords.{ending_word, member_kind}
 use Rattle.history_text.specs.Names.{Names}

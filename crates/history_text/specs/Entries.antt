@@ -3,7 +3,7 @@ use Rattle.std.specs.Prelude.{ℕ, List, Option, Some, None}
 use Rattle.history_text.specs.declared.line.Asked.TheVariants.{Enter, GoOn}
 use Rattle.history_text.specs.declared.line.Line.TheVariants.{Event}
 use Rattle.spec_histories.specs.Histories.{Entry}
-use Rattle.script_requests.specs.Words.{answer_text}
+use Rattle.spec_requests.specs.Words.{answer_text}
 use Rattle.history_text.specs.Types.{Asked, Line, Request, What}
 use Rattle.history_text.specs.Names.{Names}
 use Rattle.history_text.specs.Lookups.{procedure_word}

@@ -1,7 +1,7 @@
 -- An event's line: its words up to the first that is `=`, a space, that word, a space, and the answer.
 use Rattle.std.specs.Prelude.{ℕ, Bool, true, false, ◌==◌, ◌&&◌, not, List, [], ◌∷◌, ◌++◌, Option, Some, None, Result, Ok, Err, bytes_eq, codes, is_some, option_and_then, slice_get, if◌then◌else◌}
-use Rattle.script_line.specs.declared.reason.Reason.TheVariants.{Form, Word}
-use Rattle.script_text.specs.Words.{part_before_last, words_of}
+use Rattle.line_forms.specs.declared.reason.Reason.TheVariants.{Form, Word}
+use Rattle.line_text.specs.Words.{part_before_last, words_of}
 use Rattle.line_reader.specs.Words.{Reader, Rest, next_word, rest_of, value_at_end, ◌>>=◌}
 use Rattle.history_text.specs.declared.line.Line.TheVariants.{Event}
 use Rattle.history_text.specs.Types.{Line, Reason, What}

@@ -3,7 +3,7 @@ use Rattle.std.specs.Prelude.{ℕ, Bool, true, false, ◌+◌, ◌&&◌, ◌||�
 use Rattle.std.specs.List.{list_any}
 use Rattle.dk_base.specs.ByNumber.{at_number}
 use Rattle.dk_base.specs.declared.limits.TheConstants.{PROCEDURES_MAX, PROCESSES_MAX, THREADS_MAX}
-use Rattle.script_text.specs.Words.{are_distinct, has_name}
+use Rattle.line_text.specs.Words.{are_distinct, has_name}
 use Rattle.history_text.specs.declared.limits.TheConstants.{PATHS_MAX}
 use Rattle.history_text.specs.declared.line.Line.TheVariants.{Process, Child, Name, Procedure, Path, Event}
 use Rattle.history_text.specs.Types.{Line, Member, Pid, Place}

@@ -1,7 +1,7 @@
 -- What the first word of a line says that it is, and which lines may come.
 use Rattle.std.specs.Prelude.{ℕ, Bool, true, false, List, [], ◌∷◌, Option, Some, codes, if◌then◌else◌}
-use Rattle.script_line.specs.Words.{value_of_word}
-use Rattle.script_text.specs.Words.{is_decimal}
+use Rattle.line_forms.specs.Words.{value_of_word}
+use Rattle.line_text.specs.Words.{is_decimal}
 use Rattle.history_text.specs.declared.place.Kind.TheVariants as kind
 use Rattle.history_text.specs.declared.place.Stage.TheVariants.{Head, Body, Ended}
 use Rattle.history_text.specs.declared.line.Line.TheVariants.{Process, Child, End}

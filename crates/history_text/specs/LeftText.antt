@@ -1,6 +1,6 @@
 -- What stands in an event's line before its answer.
 use Rattle.std.specs.Prelude.{ℕ, List, ◌∷◌, ◌++◌, codes, decimal}
-use Rattle.script_text.specs.Words.{joined_words}
+use Rattle.line_text.specs.Words.{joined_words}
 use Rattle.history_text.specs.Types.{Asked, Tid}
 use Rattle.history_text.specs.Names.{Names}
 use Rattle.history_text.specs.Lookups.{thread_word}

@@ -1,9 +1,9 @@
 -- How a line is written.
 use Rattle.std.specs.Prelude.{ℕ, Bool, true, false, List, [], ◌∷◌, ◌++◌, flat_map, map, codes, decimal}
 use Rattle.dk_base.specs.declared.request.Request.TheVariants as request
-use Rattle.script_text.specs.Words.{joined_words, quoted_text}
-use Rattle.script_line.specs.Words.{attribute_words, mode_word, param_word, poll_word, release_mark, value_word, wait_words}
-use Rattle.script_requests.specs.Words.{what_word}
+use Rattle.line_text.specs.Words.{joined_words, quoted_text}
+use Rattle.line_forms.specs.Words.{attribute_words, mode_word, param_word, poll_word, release_mark, value_word, wait_words}
+use Rattle.spec_requests.specs.Words.{what_word}
 use Rattle.history_text.specs.declared.line.Asked.TheVariants.{Enter, GoOn}
 use Rattle.history_text.specs.declared.line.Ending.TheVariants.{Complete, Stalled, Open}
 use Rattle.history_text.specs.declared.line.Line.TheVariants.{Process, Child, Name, Procedure, Path, Event, End}

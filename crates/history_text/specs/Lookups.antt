@@ -2,7 +2,7 @@
 use Rattle.std.specs.Prelude.{ℕ, Bool, true, false, ◌==◌, ◌&&◌, ◌||◌, List, [], Option, Some, None, option_map, option_and_then, bytes_eq, filter, length, map, position, slice_get, unwrap_or, if◌then◌else◌}
 use Rattle.std.specs.List.{list_any}
 use Rattle.dk_base.specs.ByNumber.{at_number}
-use Rattle.script_line.specs.Words.{from_one, is_same}
+use Rattle.line_forms.specs.Words.{from_one, is_same}
 use Rattle.history_text.specs.Types.{NamedProcedure, NamedProcess, NamedThread, PathId, Pid, Tid}
 use Rattle.history_text.specs.Names.{Names, process_name, thread_name}
 

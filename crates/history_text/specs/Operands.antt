@@ -1,7 +1,7 @@
 -- The operands of a history's lines: those of scripts, but for the ones here.
 use Rattle.std.specs.Prelude.{ℕ, Bool, true, false, ◌+◌, ◌==◌, ◌&&◌, not, nat_le, List, [], ◌∷◌, Option, Some, None, option_and_then, bytes_eq, codes, length, if◌then◌else◌}
-use Rattle.script_text.specs.Words.{part_before_last, quoted_text, string_of}
-use Rattle.script_line.specs.Words.{Flag, attribute_flags, greatest_32, greatest_64}
+use Rattle.line_text.specs.Words.{part_before_last, quoted_text, string_of}
+use Rattle.line_forms.specs.Words.{Flag, attribute_flags, greatest_32, greatest_64}
 use Rattle.line_reader.specs.Words.{Reader, declared_number, is_no_stop, is_rsize, items_to, list_in_range, misspelling, name, name_from_word, next_word, number, number_from_word, optional_word, path_id, pid, pure, spelled_value, tid, value_out_of_range, ◌>>=◌}
 use Rattle.history_text.specs.declared.limits.TheConstants.{REQUEST_DATA_MAX}
 use Rattle.history_text.specs.Types.{Attrs, Fd, Pass, PathId, Pid, Tid}

@@ -1,8 +1,8 @@
 -- What a line is, or the first reason for which it is bad. Lines that are skipped are none of these.
 use Rattle.std.specs.Prelude.{ℕ, Bool, true, false, ◌==◌, nat_lt, List, [], ◌∷◌, Option, Some, None, Result, Ok, Err, bytes_eq, length, option_and_then, slice_get, if◌then◌else◌}
 use Rattle.std.specs.List.{list_all}
-use Rattle.script_line.specs.declared.reason.Reason.TheVariants.{Byte, Form, Many, Size, Twice, Unknown, Word}
-use Rattle.script_text.specs.Words.{is_printable, joined_words, words_of}
+use Rattle.line_forms.specs.declared.reason.Reason.TheVariants.{Byte, Form, Many, Size, Twice, Unknown, Word}
+use Rattle.line_text.specs.Words.{is_printable, joined_words, words_of}
 use Rattle.line_reader.specs.Words.{Reader, Rest, misspelling, next_word, rest_of, ◌>>=◌}
 use Rattle.history_text.specs.declared.limits.TheConstants.{LINE_MAX}
 use Rattle.history_text.specs.declared.place.Kind.TheVariants as kind

@@ -4,8 +4,8 @@ use Rattle.dk_base.specs.declared.event.What.TheVariants as what
 use Rattle.dk_base.specs.declared.limits.TheConstants.{ADVANCE_MAX, DELAY_MAX}
 use Rattle.dk_base.specs.declared.request.Request.TheVariants.{Create, Call, Return, Revoke, Bind, Unbind, Info, InfoQuery, GetParam, SetParam, Cred, TestCancel, Close, Dup, Attach, Detach, Open, Await, Pipe, Write, Read, PortCreate, Associate, Dissociate, Get, GetN, Send, SendN, Alert, TimerCreate, TimerSet, TimerDelete, Advance, Interrupt, Kill, Exit, Fork}
 use Rattle.line_reader.specs.Words.{Reader, misspelling, mode, number, optional_word, param, poll, pure, value_out_of_range, ◌>>=◌}
-use Rattle.script_line.specs.Words.{value_of_word}
-use Rattle.script_requests.specs.Words.{what_word}
+use Rattle.line_forms.specs.Words.{value_of_word}
+use Rattle.spec_requests.specs.Words.{what_word}
 use Rattle.history_text.specs.declared.line.Asked.TheVariants.{Enter, GoOn}
 use Rattle.history_text.specs.Types.{Asked, Fd, PathId, Request, What}
 use Rattle.history_text.specs.Names.{Names}

@@ -11,7 +11,7 @@ pub use Rattle.dk_base.specs.declared.request.Param.{Param}
 pub use Rattle.dk_base.specs.declared.request.Request.{Request}
 pub use Rattle.dk_base.specs.declared.set.Attrs.{Attrs}
 pub use Rattle.dk_base.specs.declared.set.PollSet.{PollSet}
-pub use Rattle.script_line.specs.declared.reason.Reason.{Reason}
+pub use Rattle.line_forms.specs.declared.reason.Reason.{Reason}
 pub use Rattle.history_text.specs.declared.line.Asked.{Asked}
 pub use Rattle.history_text.specs.declared.line.Ending.{Ending}
 pub use Rattle.history_text.specs.declared.line.Line.{Line}

@@ -41,7 +41,7 @@ fn call_process(process: &mut NamedProcess, name: Bytes)
 impl Names {
     ghost use Rattle.std.specs.Prelude.{◌≡◌, OnErr, OnOk, false, true};
     ghost use Rattle.history_text.specs.NameLimits.{is_short};
-    ghost use Rattle.script_text.specs.Words.{has_name};
+    ghost use Rattle.line_text.specs.Words.{has_name};
     ghost use Rattle.history_text.specs.Lookups.{process_of};
     ghost use Rattle.history_text.specs.Changes.{called_process, changed_at, new_process, with_asked_mention, with_line, with_mention, with_names, with_path, with_procedure, with_process};
     ghost use Rattle.history_text.specs.Faults.{is_twice};

@@ -15,8 +15,8 @@ use crate::place::Kind;
 use dk_base::limits::DESCRIPTORS_MAX;
 use dk_base::list::{Sequence, TidList};
 use dk_base::number::Pid;
+use line_forms::reason::Reason;
 use line_reader::fault::Fault;
-use script_line::reason::Reason;
 use std::alloc::Global;
 
 impl<'a> Operands<'a> {

@@ -1,7 +1,7 @@
 //! Operands that are descriptors.
 
 ghost use Rattle.std.specs.Prelude.{◌≡◌};
-ghost use Rattle.script_text.specs.Words.{part_before_last as front_of_word};
+ghost use Rattle.line_text.specs.Words.{part_before_last as front_of_word};
 ghost use Rattle.line_reader.specs.Combinators.{items_to};
 ghost use Rattle.line_reader.specs.ListContracts.{is_at_stop, next_item};
 ghost use Rattle.line_reader.specs.OperandContracts.{Reads};
@@ -12,9 +12,9 @@ use crate::operands::Operands;
 use dk_base::list::{FdList, PassList, Sequence};
 use dk_base::number::Fd;
 use dk_base::object::Pass;
+use line_forms::reason::Reason;
 use line_reader::fault::Fault;
-use script_line::reason::Reason;
-use script_text::parts::part_before_last;
+use line_text::parts::part_before_last;
 use std::alloc::Global;
 
 impl<'a> Operands<'a> {

@@ -1,7 +1,7 @@
 //! An event's line: its words up to the first that is `=`, a space, that word, a space, and the answer.
 
 ghost use Rattle.std.specs.Prelude.{◌≡◌, ◌++◌, ◌∷◌, [], Some, None, MatchOption, MatchResult, option_copied, slice_get};
-ghost use Rattle.script_text.specs.Words.{words_of};
+ghost use Rattle.line_text.specs.Words.{words_of};
 ghost use Rattle.line_reader.specs.OperandContracts.{Reads, Fails};
 ghost use Rattle.history_text.specs.Events.{after_front as after_front_of, after_words, answer_of as answer_in, event_line, event_read, is_answer as is_answer_text, words_asked};
 
@@ -11,10 +11,10 @@ use crate::names::Names;
 use crate::operands::{Operands, next_of};
 use dk_base::event::What;
 use dk_base::list::Sequence;
+use line_forms::reason::Reason;
 use line_reader::fault::Fault;
-use script_line::reason::Reason;
-use script_text::parts::part_before_last;
-use script_text::words::next_word;
+use line_text::parts::part_before_last;
+use line_text::words::next_word;
 use std::alloc::Global;
 
 /// The bytes after these, where a text begins with them.

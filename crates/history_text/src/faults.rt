@@ -2,7 +2,7 @@
 
 ghost use Rattle.std.specs.Prelude.{◌≡◌, bytes_eq};
 ghost use Rattle.std.specs.List.{list_any};
-ghost use Rattle.script_text.specs.Words.{are_distinct};
+ghost use Rattle.line_text.specs.Words.{are_distinct};
 ghost use Rattle.history_text.specs.Lookups.{is_thread_name_used};
 ghost use Rattle.history_text.specs.Faults.{are_members_used as are_members_used_in, are_processes_many as are_too_many, are_thread_names_used as are_thread_names_used_in, have_same_name, is_many as is_line_many, is_member_used, is_twice as is_line_twice};
 

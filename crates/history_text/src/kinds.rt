@@ -2,16 +2,16 @@
 
 ghost use Rattle.std.specs.Prelude.{◌≡◌};
 ghost use Rattle.history_text.specs.Declarations.{ending_of as ending_spelled, is_spare_of as is_spare_spelled};
-ghost use Rattle.script_line.specs.Words.{value_of_word};
+ghost use Rattle.line_forms.specs.Words.{value_of_word};
 ghost use Rattle.history_text.specs.Kinds.{worded_kinds, kind_of as kind_spelled, kind_word as kind_spelling, may_stand as may_stand_at, stage_after as stage_behind};
 ghost use Rattle.history_text.specs.LineWords.{ending_word as ending_spelling};
 ghost use Rattle.history_text.specs.Requests.{what_of as what_spelled, is_wait_end as is_end_of_wait};
-ghost use Rattle.script_requests.specs.Words.{what_word as what_spelling};
+ghost use Rattle.spec_requests.specs.Words.{what_word as what_spelling};
 
 use crate::line::{Ending, Line};
 use crate::place::{Kind, Stage};
 use dk_base::event::What;
-use script_text::number::{Number, bounded_number};
+use line_text::number::{Number, bounded_number};
 
 /// The word of each kind but an event.
 fn kind_word(kind: Kind) -> &'static str

@@ -35,7 +35,7 @@ impl Model for Names {
 
 impl Names {
     ghost use Rattle.std.specs.Prelude.{◌≡◌, ◌||◌, option_copied};
-    ghost use Rattle.script_text.specs.Words.{has_name};
+    ghost use Rattle.line_text.specs.Words.{has_name};
     ghost use Rattle.dk_base.specs.ByNumber.{at_number};
     ghost use Rattle.history_text.specs.Names.{no_names};
     ghost use Rattle.history_text.specs.Lookups.{process_word, thread_word, procedure_word, path_word, process_number as process_numbered, thread_number as thread_numbered, procedure_number as procedure_numbered, path_number as path_numbered, process_of as process_of_thread, parent_of as parent_of_process, limit_of as limit_of_process, member_count as members_of, procedure_count as procedures_of, child_number as child_numbered, used_process_number as used_process_numbered, is_process_name_used as is_process_name, is_thread_name_used as is_thread_name};

@@ -7,11 +7,11 @@ ghost use Rattle.history_text.specs.Events.{words_until};
 ghost use Rattle.history_text.specs.Operands.{the_word as the_word_read};
 
 use dk_base::list::{Bytes, Sequence};
+use line_forms::reason::Reason;
 use line_reader::fault::Fault;
-use script_line::reason::Reason;
-use script_text::names::is_name;
-use script_text::number::{Number, bounded_number};
-use script_text::words;
+use line_text::names::is_name;
+use line_text::number::{Number, bounded_number};
+use line_text::words;
 use std::alloc::Global;
 use std::marker::Model;
 

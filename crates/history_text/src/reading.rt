@@ -3,7 +3,7 @@
 ghost use Rattle.std.specs.Prelude.{◌≡◌, ◌∷◌, ◌++◌, [], Ok, MatchResult, bytes_eq, option_copied};
 ghost use Rattle.std.specs.List.{list_all};
 ghost use Rattle.line_reader.specs.OperandContracts.{Fails};
-ghost use Rattle.script_text.specs.Words.{is_printable as is_printable_byte, spaced_words, words_of};
+ghost use Rattle.line_text.specs.Words.{is_printable as is_printable_byte, spaced_words, words_of};
 ghost use Rattle.history_text.specs.Events.{after_front as after_front_of};
 ghost use Rattle.history_text.specs.Reading.{byte_fault as byte_fault_of, declared_fault, is_skipped as is_line_skipped, is_spaced as is_line_spaced, kind_at as kind_at_place, line_by_words as line_words_read, line_of_kind as line_of_kind_read, line_read, spaced_line as spaced_line_read};
 
@@ -15,10 +15,10 @@ use crate::line::Line;
 use crate::names::Names;
 use crate::operands::Operands;
 use crate::place::{Kind, Place};
+use line_forms::reason::Reason;
 use line_reader::fault::Fault;
-use script_line::reason::Reason;
-use script_text::string::is_printable;
-use script_text::words::next_word;
+use line_text::string::is_printable;
+use line_text::words::next_word;
 use std::alloc::Global;
 
 /// Whether a line is not read: it has only spaces, or its first byte other than a space is `#`.

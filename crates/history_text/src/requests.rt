@@ -11,8 +11,8 @@ use crate::operands::Operands;
 use dk_base::event::What;
 use dk_base::limits::{ADVANCE_MAX, DELAY_MAX};
 use dk_base::request::Request;
+use line_forms::reason::Reason;
 use line_reader::fault::Fault;
-use script_line::reason::Reason;
 use std::alloc::Global;
 
 impl<'a> Operands<'a> {

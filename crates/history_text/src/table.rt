@@ -13,7 +13,7 @@ pub struct Table {
 
 impl Model for Table {
     ghost use Rattle.std.specs.Prelude.{List, ℕ};
-    ghost use Rattle.script_line.specs.PathNames.{names_as_bytes};
+    ghost use Rattle.line_forms.specs.PathNames.{names_as_bytes};
 
     ghost Value = { List (List ℕ) };
 
@@ -22,8 +22,8 @@ impl Model for Table {
 
 impl Table {
     ghost use Rattle.std.specs.Prelude.{◌≡◌, ℕ, List, ◌∷◌, ◌++◌, [], false, length, position, slice_get, unwrap_or, OnOk, OnErr};
-    ghost use Rattle.script_line.specs.Tables.{is_same};
-    ghost use Rattle.script_text.specs.Words.{has_name};
+    ghost use Rattle.line_forms.specs.Tables.{is_same};
+    ghost use Rattle.line_text.specs.Words.{has_name};
 
     /// No string.
     pub fn new(alloc: Global) -> Self

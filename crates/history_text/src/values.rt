@@ -1,8 +1,8 @@
 //! Operands that are strings, and words of tables.
 
 ghost use Rattle.std.specs.Prelude.{◌≡◌, ◌≤◌, IfOk};
-ghost use Rattle.script_line.specs.FlagWords.{flag_word};
-ghost use Rattle.script_line.specs.Sets.{attribute_flags, flag};
+ghost use Rattle.line_forms.specs.FlagWords.{flag_word};
+ghost use Rattle.line_forms.specs.Sets.{attribute_flags, flag};
 ghost use Rattle.line_reader.specs.OperandContracts.{Reads, Gives};
 ghost use Rattle.line_reader.specs.Operands.{mode as mode_read, param as param_read, poll as poll_read};
 ghost use Rattle.history_text.specs.Operands.{attributes as attributes_read, canonical_string as canonical_string_of, data_bytes as data_bytes_read, optional_flag, string as string_read, value as value_read, value_from_word as value_from_word_read, waits as waits_read};
@@ -13,11 +13,11 @@ use dk_base::error::NoMemory;
 use dk_base::list::{Bytes, Sequence};
 use dk_base::request::{AlertMode, Param};
 use dk_base::set::{Attrs, PollSet};
+use line_forms::enumerated::{mode_of, param_of};
+use line_forms::reason::Reason;
+use line_forms::sets::{attribute_word, poll_of};
 use line_reader::fault::Fault;
-use script_line::enumerated::{mode_of, param_of};
-use script_line::reason::Reason;
-use script_line::sets::{attribute_word, poll_of};
-use script_text::string::{quoted_text, string_of};
+use line_text::string::{quoted_text, string_of};
 use std::alloc::Global;
 
 /// The bytes that a string spells, where it is the one spelling of them.

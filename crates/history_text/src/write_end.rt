@@ -1,7 +1,7 @@
 //! The end line of a history, written in room that was taken before.
 
 ghost use Rattle.std.specs.Prelude.{◌≡◌, ◌≤◌, ◌+◌, ◌*◌, ◌++◌, ◌∷◌, codes, length, map};
-ghost use Rattle.script_text.specs.Words.{spaced_words};
+ghost use Rattle.line_text.specs.Words.{spaced_words};
 ghost use Rattle.trace_text.specs.Taken.{TakesAtMost};
 ghost use Rattle.history_text.specs.declared.line.Line.TheVariants.{End};
 ghost use Rattle.history_text.specs.LineWords.{ending_word, line_text};

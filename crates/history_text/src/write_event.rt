@@ -1,8 +1,8 @@
 //! What stands in an event's line before its answer, and an answer. They are written in room that was taken before.
 
 ghost use Rattle.std.specs.Prelude.{◌≡◌, ◌≤◌, ◌+◌, [], ◌∷◌, ◌++◌, decimal, length};
-ghost use Rattle.script_text.specs.Words.{spaced_words};
-ghost use Rattle.script_requests.specs.Words.{answer_text};
+ghost use Rattle.line_text.specs.Words.{spaced_words};
+ghost use Rattle.spec_requests.specs.Words.{answer_text};
 ghost use Rattle.trace_text.specs.AnswerRoom.{count_listed};
 ghost use Rattle.trace_text.specs.Taken.{TakesAtMost};
 ghost use Rattle.history_text.specs.declared.line.Asked.TheVariants.{Enter, GoOn};

@@ -1,8 +1,8 @@
 //! Operands as a line's further words, each with a space before it. They are written in room that was taken before.
 
 ghost use Rattle.std.specs.Prelude.{◌≡◌, ◌≤◌, ◌+◌, ◌*◌, ◌∷◌, ◌++◌, map, flat_map, length};
-ghost use Rattle.script_text.specs.Words.{spaced_words};
-ghost use Rattle.script_line.specs.Words.{attribute_flags, attribute_if, attribute_words, bits_of_flags, wait_words};
+ghost use Rattle.line_text.specs.Words.{spaced_words};
+ghost use Rattle.line_forms.specs.Words.{attribute_flags, attribute_if, attribute_words, bits_of_flags, wait_words};
 ghost use Rattle.trace_text.specs.Taken.{TakesAtMost};
 ghost use Rattle.history_text.specs.LineWords.{desc_words, fd_word, pass_word};
 
@@ -10,7 +10,7 @@ use dk_base::list::Room;
 use dk_base::number::Fd;
 use dk_base::object::Pass;
 use dk_base::set::Attrs;
-use script_line::sets::{ATTRIBUTES, attribute_word};
+use line_forms::sets::{ATTRIBUTES, attribute_word};
 use trace_text::append::{push_spaced, push_spaced_number, push_word};
 
 /// `nowait`, where it does not wait.
@@ -90,7 +90,7 @@ fn push_set(text: &mut Room<u8>, set: u32)
 }
 
 /// ATTR .., in the table's order.
-#[tactic(auto, using(script_line::proofs::FlagsOfSet::attribute_words_put))]
+#[tactic(auto, using(line_forms::proofs::FlagsOfSet::attribute_words_put))]
 pub fn push_attribute_words(text: &mut Room<u8>, attributes: Attrs)
     requires { 96 ≤ text.old.spare }
     ensures items { text.new.items ≡ text.old.items ++ spaced_words (attribute_words attributes) }

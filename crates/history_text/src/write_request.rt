@@ -1,8 +1,8 @@
 //! A request as a line's further words, each with a space before it. It is written in room that was taken before.
 
 ghost use Rattle.std.specs.Prelude.{◌≡◌, ◌≤◌, ◌+◌, ◌*◌, [], ◌∷◌, ◌++◌, codes, decimal, length, map};
-ghost use Rattle.script_text.specs.Words.{quoted_text, spaced_words};
-ghost use Rattle.script_line.specs.Words.{attribute_words, mode_word as mode_spelling, param_word as param_spelling, poll_word as poll_spelling, value_word, wait_words};
+ghost use Rattle.line_text.specs.Words.{quoted_text, spaced_words};
+ghost use Rattle.line_forms.specs.Words.{attribute_words, mode_word as mode_spelling, param_word as param_spelling, poll_word as poll_spelling, value_word, wait_words};
 ghost use Rattle.trace_text.specs.Taken.{TakesAtMost};
 ghost use Rattle.history_text.specs.Lookups.{path_word, procedure_word};
 ghost use Rattle.history_text.specs.LineWords.{desc_words, fd_word, request_words};
@@ -17,7 +17,7 @@ use dk_base::number::{Fd, PathId};
 use dk_base::object::Pass;
 use dk_base::request::{AlertMode, Param, Request};
 use dk_base::set::{Attrs, PollSet};
-use script_line::enumerated::{mode_word, param_word};
+use line_forms::enumerated::{mode_word, param_word};
 use trace_text::append::{push_spaced, push_spaced_number, push_value, push_word};
 use trace_text::data_text::push_quoted;
 use trace_text::sets::push_poll;

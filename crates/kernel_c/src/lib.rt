@@ -2,7 +2,7 @@
 #![tactic(auto)]
 
 ghost use Rattle.std.specs.Prelude.{◌≡◌, ◌<◌, ◌≤◌, ◌++◌, ◌∷◌, [], None, Some, length, take};
-ghost use Rattle.written_kernel.specs.Words.{is_runnable, state_of};
+ghost use Rattle.spec_kernel.specs.Words.{is_runnable, state_of};
 ghost use Rattle.spec_histories.specs.Histories.{IsHistory, end};
 ghost use Rattle.history_text.specs.HeadText.{head_text};
 ghost use Rattle.kernel_chronicle.specs.Declarations.{IsBadDeclaration, IsDeclared};

@@ -1,6 +1,6 @@
 -- How many items the events of an answer are.
 use Rattle.std.proofs.Common.{◌≡◌, ◌≤◌, ◌<◌, ◌*◌, ◌^◌, ℕ, List, [], ◌∷◌, length, flat_map, arith}
-use Rattle.written_kernel.specs.Types.{EventRec}
+use Rattle.spec_kernel.specs.Types.{EventRec}
 use Rattle.kernel_chronicle.specs.Replies.{event_numbers}
 
 pub count_events : (es : List EventRec) → length (flat_map event_numbers es) ≡ 4 * length es

@@ -3,8 +3,8 @@ use Rattle.std.proofs.Common.{◌≡◌, ap, ℕ, ◌≤◌, ◌&&◌, Bool, fal
 use Rattle.std.specs.Prelude.{IfOk}
 use Rattle.dk_base.specs.declared.answer.Answer.TheVariants as answer
 use Rattle.dk_base.specs.declared.request.Request.TheVariants as request
-use Rattle.answering_kernel.specs.Small.{IsSmall, count_sent}
-use Rattle.written_kernel.specs.Types.{Answer, Errno, Fd, Request}
+use Rattle.spec_kernel.specs.Small.{IsSmall, count_sent}
+use Rattle.spec_kernel.specs.Types.{Answer, Errno, Fd, Request}
 use Rattle.kernel_chronicle.specs.Replies.{answer_bytes, answer_items, error_number, fd_number}
 use Rattle.trace_text.specs.AnswerRoom.{count_listed}
 use Rattle.history_text.specs.RequestRoom.{request_room}

@@ -1,7 +1,7 @@
 -- What an entry's line mentions, in the order of the calls that say so.
 use Rattle.std.proofs.Common.{◌≡◌, ℕ, Option, Some, None, refl}
 use Rattle.dk_base.specs.declared.request.Request.TheVariants.{Interrupt, Kill, Fork}
-use Rattle.written_kernel.specs.Types.{Request, Tid}
+use Rattle.spec_kernel.specs.Types.{Request, Tid}
 use Rattle.history_text.specs.Changes.{mentioned_by, with_mention, with_request_mention}
 use Rattle.history_text.specs.Lookups.{process_of}
 use Rattle.history_text.specs.Words.{Names}

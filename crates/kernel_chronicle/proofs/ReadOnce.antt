@@ -1,8 +1,8 @@
 -- A line that is read declares nothing again.
 use Rattle.std.proofs.Common.{◌≡◌, Bool, true, false, List, ℕ, Option, Some, None, Result, Ok, Err, refl, sym, ap, ◌∙◌, subst}
 use Rattle.std.specs.Prelude.{if◌then◌else◌}
-use Rattle.script_line.specs.declared.reason.Reason.{Reason}
-use Rattle.script_line.specs.declared.reason.Reason.TheVariants.{Many, Twice, Unknown}
+use Rattle.line_forms.specs.declared.reason.Reason.{Reason}
+use Rattle.line_forms.specs.declared.reason.Reason.TheVariants.{Many, Twice, Unknown}
 use Rattle.line_reader.specs.Words.{Rest}
 use Rattle.history_text.specs.declared.line.Line.{Line}
 use Rattle.history_text.specs.declared.place.Place.{Place}

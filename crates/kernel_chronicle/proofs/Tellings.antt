@@ -1,9 +1,9 @@
 -- What a turn told is the entry's.
 use Rattle.std.proofs.Common.{◌≡◌, ◌+◌, ℕ, ◌++◌, List, [], ◌∷◌, Option, Some, None, refl, ap, sym, subst, ◌∙◌, append_assoc}
 use Rattle.std.specs.Prelude.{codes, decimal}
-use Rattle.script_text.specs.Words.{joined_words}
-use Rattle.written_kernel.specs.Types.{Answer, Request, Tid, What}
-use Rattle.written_kernel.specs.Words.{IsFit}
+use Rattle.line_text.specs.Words.{joined_words}
+use Rattle.spec_kernel.specs.Types.{Answer, Request, Tid, What}
+use Rattle.spec_kernel.specs.Words.{IsFit}
 use Rattle.spec_histories.specs.Histories.{Entry, History, end, grown, next}
 use Rattle.kernel_chronicle.specs.declared.asked.Asked.{Asked as AskedByC}
 use Rattle.kernel_handle.specs.declared.recorder.Refused.{Refused}
@@ -11,7 +11,7 @@ use Rattle.kernel_handle.specs.declared.recorder.Refused.TheVariants as refused
 use Rattle.kernel_handle.specs.declared.recorder.Told.{Told}
 use Rattle.kernel_chronicle.specs.Asks.{asked_request}
 use Rattle.kernel_chronicle.specs.Replies.{answer_bytes, reply_bytes, reply_words, words_of}
-use Rattle.script_requests.specs.Words.{answer_text}
+use Rattle.spec_requests.specs.Words.{answer_text}
 use Rattle.history_text.specs.declared.line.Asked.{Asked}
 use Rattle.history_text.specs.declared.line.Asked.TheVariants.{Enter, GoOn}
 use Rattle.history_text.specs.Changes.{mentioned_by, with_mention, with_request_mention}

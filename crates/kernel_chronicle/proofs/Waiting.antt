@@ -1,10 +1,10 @@
 -- No more threads wait than there are.
 use Rattle.std.proofs.Common.{◌≡◌, ◌≤◌, ◌+◌, ℕ, List, [], ◌∷◌, ◌++◌, Bool, true, false, length, zero, suc, arith, length-append}
 use Rattle.std.specs.Prelude.{if◌then◌else◌}
-use Rattle.written_kernel.specs.Types.{Tid}
-use Rattle.kernel_records.specs.Words.{tid}
-use Rattle.written_kernel.specs.Words.{State, is_waiting_state, state_of, waiting_threads}
-use Rattle.written_kernel.specs.Turns.{waiting_among}
+use Rattle.spec_kernel.specs.Types.{Tid}
+use Rattle.spec_records.specs.Words.{tid}
+use Rattle.spec_kernel.specs.Words.{State, is_waiting_state, state_of, waiting_threads}
+use Rattle.spec_kernel.specs.Turns.{waiting_among}
 
 at_most_one : (here : Bool) (t : Tid) → length (if here then t ∷ [] else []) ≤ 1
 at_most_one true t = omega arith

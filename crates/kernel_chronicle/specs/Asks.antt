@@ -6,7 +6,7 @@ use Rattle.dk_base.specs.declared.request.AlertMode.{AlertMode}
 use Rattle.dk_base.specs.declared.request.AlertMode.TheVariants.{Set, Update, Nothing}
 use Rattle.dk_base.specs.declared.request.Param.{Param}
 use Rattle.dk_base.specs.declared.request.Param.TheVariants.{DataMax, DataMin, DescMax}
-use Rattle.written_kernel.specs.Types.{Fd, Pass, Request}
+use Rattle.spec_kernel.specs.Types.{Fd, Pass, Request}
 use Rattle.kernel_chronicle.specs.declared.asked.Asked.{Asked}
 
 -- a descriptor that is passed: its number, and above its 32 bits a 1 where it is released

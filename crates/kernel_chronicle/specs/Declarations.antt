@@ -1,7 +1,7 @@
 -- The lines by which C declares names, procedures and paths.
 use Rattle.std.specs.Prelude.{ℕ, ◌≡◌, ◌+◌, ◌≤◌, ◌⊎◌, Bool, true, false, List, Result, Ok, Err, if◌then◌else◌}
-use Rattle.script_line.specs.declared.reason.Reason.{Reason}
-use Rattle.script_line.specs.declared.reason.Reason.TheVariants as reason
+use Rattle.line_forms.specs.declared.reason.Reason.{Reason}
+use Rattle.line_forms.specs.declared.reason.Reason.TheVariants as reason
 use Rattle.history_text.specs.declared.line.Line.{Line}
 use Rattle.history_text.specs.declared.line.Line.TheVariants.{Name, Path, Procedure}
 use Rattle.history_text.specs.declared.place.Place.{Place}

@@ -1,7 +1,7 @@
 -- The end line of a history.
 use Rattle.std.specs.Prelude.{ℕ, List, [], ◌∷◌, Option, Some, None}
-use Rattle.written_kernel.specs.Types.{Tid}
-use Rattle.written_kernel.specs.Words.{State, least_runnable, waiting_threads}
+use Rattle.spec_kernel.specs.Types.{Tid}
+use Rattle.spec_kernel.specs.Words.{State, least_runnable, waiting_threads}
 use Rattle.history_text.specs.declared.line.Ending.{Ending}
 use Rattle.history_text.specs.declared.line.Ending.TheVariants.{Complete, Open, Stalled}
 use Rattle.history_text.specs.declared.line.Line.{Line}

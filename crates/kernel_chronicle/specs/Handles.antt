@@ -5,7 +5,7 @@ use Rattle.std.specs.Prelude.{Option, Some, None}
 use Rattle.std.specs.Box.Ownership.{box_owns}
 use Rattle.std.specs.Global.{Global}
 use Rattle.std_heap.specs.contracts.GlobalAllocator.TheImpl.{ghosts}
-use Rattle.written_kernel.specs.Words.{no_process}
+use Rattle.spec_kernel.specs.Words.{no_process}
 use Rattle.spec_histories.specs.Histories.{begun}
 use Rattle.history_text.specs.Words.{no_names}
 use Rattle.kernel_chronicle.specs.contracts.chronicle.Chronicle.{the_row}

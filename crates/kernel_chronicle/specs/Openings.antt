@@ -1,7 +1,7 @@
 -- With which processes a history begins, as C declares them.
 use Rattle.std.specs.Prelude.{ℕ, ◌≡◌, ◌≤◌, ◌==◌, List, map, Option, None, Some, length, if◌then◌else◌}
-use Rattle.kernel_records.specs.Words.{pid}
-use Rattle.written_kernel.specs.Types.{Pid}
+use Rattle.spec_records.specs.Words.{pid}
+use Rattle.spec_kernel.specs.Types.{Pid}
 use Rattle.spec_histories.specs.Histories.{begun}
 use Rattle.spec_histories.specs.Openings.{opening_of}
 use Rattle.kernel_handle.specs.Openings.{IsNoOpening}

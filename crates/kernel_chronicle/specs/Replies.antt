@@ -3,7 +3,7 @@ use Rattle.std.specs.Prelude.{ℕ, List, [], ◌∷◌, ◌++◌, Option, Some, 
 use Rattle.dk_base.specs.declared.answer.Answer.TheVariants as answer
 use Rattle.dk_base.specs.declared.error.Errno.TheVariants as errno
 use Rattle.dk_base.specs.declared.object.Src.TheVariants as source
-use Rattle.written_kernel.specs.Types.{Answer, DoorInfo, Errno, EventRec, Fd, Pid, Src, Tid}
+use Rattle.spec_kernel.specs.Types.{Answer, DoorInfo, Errno, EventRec, Fd, Pid, Src, Tid}
 use Rattle.spec_histories.specs.Histories.{Entry}
 
 abbrev pub errno_number : Errno → ℕ

@@ -1,9 +1,9 @@
 -- The numbers by which C is told of threads and of refusals.
 use Rattle.std.specs.Prelude.{ℕ, ◌≡◌, ◌≤◌, ◌&&◌, Bool, true, false, not, List, Ok, Err, Result}
 use Rattle.dk_base.specs.declared.limits.TheConstants.{EVENTS_MAX}
-use Rattle.kernel_records.specs.declared.record.ThreadState.TheVariants as is
-use Rattle.written_kernel.specs.Types.{ThreadState}
-use Rattle.written_kernel.specs.Words.{is_runnable, is_running}
+use Rattle.spec_records.specs.declared.record.ThreadState.TheVariants as is
+use Rattle.spec_kernel.specs.Types.{ThreadState}
+use Rattle.spec_kernel.specs.Words.{is_runnable, is_running}
 use Rattle.spec_histories.specs.Histories.{end}
 use Rattle.kernel_chronicle.specs.declared.asked.Asked.{Asked}
 use Rattle.kernel_chronicle.specs.declared.refusal.Refusal.{Refusal}

@@ -1,8 +1,8 @@
 -- A history and what its text has declared; what a call that C makes did to them.
 use Rattle.std.specs.Prelude.{ℕ, ◌≡◌, ◌≤◌, ◌<◌, ◌++◌, ◌∷◌, [], ◌&&◌, false, true, not, List, Option, Some, None, length, take}
 use Rattle.dk_base.specs.declared.limits.TheConstants.{EVENTS_MAX}
-use Rattle.written_kernel.specs.Types.{Request, Tid}
-use Rattle.written_kernel.specs.Words.{IsFit, MayTurn, is_runnable, is_running}
+use Rattle.spec_kernel.specs.Types.{Request, Tid}
+use Rattle.spec_kernel.specs.Words.{IsFit, MayTurn, is_runnable, is_running}
 use Rattle.spec_histories.specs.Histories.{Entry, History, IsHistory, end, grown, next}
 use Rattle.kernel_chronicle.specs.declared.asked.Asked.{Asked}
 use Rattle.kernel_chronicle.specs.declared.rooms.TheConstants.{BYTES_ROOM, ITEMS_ASKED_MAX, REPLY_ROOM, TEXT_ROOM}

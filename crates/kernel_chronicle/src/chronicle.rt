@@ -40,7 +40,7 @@ fn has_room(reply: &[u64], bytes: &[u8], text: &[u8]) -> bool
 }
 
 ghost use Rattle.std.specs.Prelude.{if◌then◌else◌, IfErr, ◌≡◌, ◌<◌, ◌≤◌, ◌+◌, ◌*◌, ◌++◌, ◌∷◌, [], IfOk, OnOk, None, Some, false, length, take, true};
-ghost use Rattle.written_kernel.specs.Words.{is_runnable, least_runnable, state_of, waiting_threads};
+ghost use Rattle.spec_kernel.specs.Words.{is_runnable, least_runnable, state_of, waiting_threads};
 ghost use Rattle.spec_histories.specs.Histories.{IsHistory, end};
 ghost use Rattle.kernel_chronicle.specs.declared.rooms.TheConstants.{BYTES_ROOM, REPLY_ROOM, TEXT_ROOM};
 ghost use Rattle.history_text.specs.declared.line.Ending.TheVariants.{Open};

@@ -1,6 +1,6 @@
 //! The lines by which C declares names, procedures and paths.
 ghost use Rattle.std.specs.Prelude.{◌≡◌, IfOk, false};
-ghost use Rattle.script_line.specs.declared.reason.Reason.{Reason as ReasonValue};
+ghost use Rattle.line_forms.specs.declared.reason.Reason.{Reason as ReasonValue};
 ghost use Rattle.line_reader.specs.declared.fault.Fault.TheVariants.{Bad};
 ghost use Rattle.kernel_chronicle.specs.Declarations.{declaration_read, is_declaration, reason_number};
 ghost use Rattle.history_text.specs.Faults.{is_twice};
@@ -9,8 +9,8 @@ use history_text::line::Line;
 use history_text::names::Names;
 use history_text::place::{Place, Stage};
 use history_text::reading::read_line;
+use line_forms::reason::Reason;
 use line_reader::fault::Fault;
-use script_line::reason::Reason;
 use std::alloc::Global;
 
 pub fn number_of_reason(reason: Reason) -> u32

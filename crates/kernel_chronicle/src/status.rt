@@ -3,7 +3,7 @@ ghost use Rattle.std.specs.Prelude.{◌≡◌};
 ghost use Rattle.kernel_chronicle.specs.Statuses.{refusal_number, state_number, turn_number, unopened_number};
 
 use crate::refusal::{Refusal, Unopened};
-use kernel_records::record::ThreadState;
+use spec_records::record::ThreadState;
 
 /// Memory lacks.
 pub const NO_MEMORY: u32 = 5;

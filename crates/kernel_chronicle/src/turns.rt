@@ -1,13 +1,13 @@
 //! The turns that C asks for. All that can fail or be wrong is tested before a turn.
 ghost use Rattle.std.specs.Prelude.{◌≡◌, true, ◌<◌, ◌≤◌, ◌+◌, ◌++◌, ◌∷◌, [], IfErr, IfOk, None, OnErr, OnOk, Some, length, take};
 ghost use Rattle.dk_base.specs.declared.limits.TheConstants.{EVENTS_MAX, THREADS_MAX};
-ghost use Rattle.written_kernel.specs.Words.{is_running};
-ghost use Rattle.answering_kernel.specs.Small.{IsSmall};
+ghost use Rattle.spec_kernel.specs.Words.{is_running};
+ghost use Rattle.spec_kernel.specs.Small.{IsSmall};
 ghost use Rattle.spec_histories.specs.Histories.{IsHistory, end};
 ghost use Rattle.history_text.specs.declared.write_event.TheConstants.{ANSWER_MAX, LEFT_MAX};
 ghost use Rattle.kernel_chronicle.specs.declared.rooms.TheConstants.{BYTES_ROOM, ITEMS_ASKED_MAX, REPLY_ROOM, TEXT_ROOM};
 ghost use Rattle.kernel_chronicle.specs.Asks.{asked_request};
-ghost use Rattle.script_requests.specs.Words.{answer_text};
+ghost use Rattle.spec_requests.specs.Words.{answer_text};
 ghost use Rattle.trace_text.specs.AnswerRoom.{count_listed};
 ghost use Rattle.dk_base.specs.declared.limits.TheConstants.{ANSWER_ITEMS_MAX};
 ghost use Rattle.history_text.specs.declared.limits.TheConstants.{REQUEST_DATA_MAX};
@@ -23,7 +23,6 @@ use crate::asking::request;
 use crate::refusal::Refusal;
 use crate::reply::{bytes_of, push_reply};
 use crate::rooms::{ITEMS_ASKED_MAX, TurnRoom, put_bytes, put_words, room_for_turn};
-use answering_kernel::what::of_wait;
 use dk_base::limits::EVENTS_MAX;
 use dk_base::number::Tid;
 use dk_base::request::Request;
@@ -32,6 +31,7 @@ use history_text::names::Names;
 use history_text::write_event::{push_answer, push_left, push_left_of_wait};
 use kernel_handle::held::Held;
 use kernel_handle::recorder::{Refused, Told};
+use spec_kernel::what::of_wait;
 use std::alloc::Global;
 
 /// The request that C asks for, where it may be entered but for what only the kernel can tell.

@@ -5,18 +5,18 @@ use Rattle.std.proofs.lemmas.Bool.Decides.{nat_tests}
 use Rattle.std.proofs.Math.Nat.{le-min}
 use Rattle.std.proofs.lemmas.List.Sums.{count_by-le-length, length-filter, sum_by-cons}
 use Rattle.dk_base.specs.declared.object.Obj.TheVariants as obj
-use Rattle.kernel_records.specs.declared.pool.Pool.TheVariants.{Common, Private}
-use Rattle.written_kernel.proofs.Moves.{Moves, act_moves}
-use Rattle.written_kernel.specs.Types.{Door, Pool, Request}
-use Rattle.kernel_records.specs.Words.{AreNumbered, is_pool, is_private, notice_doors, numbers_where, pool_in, takes_notices_in}
-use Rattle.written_kernel.specs.Words.{ActResult, State, act, door_of, pool_of}
+use Rattle.spec_records.specs.declared.pool.Pool.TheVariants.{Common, Private}
+use Rattle.spec_kernel.proofs.Moves.{Moves, act_moves}
+use Rattle.spec_kernel.specs.Types.{Door, Pool, Request}
+use Rattle.spec_records.specs.Words.{AreNumbered, is_pool, is_private, notice_doors, numbers_where, pool_in, takes_notices_in}
+use Rattle.spec_kernel.specs.Words.{ActResult, State, act, door_of, pool_of}
 use Rattle.server_pool.specs.Words.{IsAscending, item_room_in, pool_at}
 use Rattle.server_pool.proofs.Order.{ordered_filter}
 use Rattle.unref_notice.specs.Words.{count_of}
 use Rattle.kernel_store.specs.Words.{CanMake, IsAgreed, HasBegun, StoreValue, count_served, items_for, stored_state}
 use Rattle.kernel_store.proofs.Short.{there_by_length}
 use Rattle.kernel_core.specs.Watched.{HadRoomForNotices, IsKeptDoor, KeepsDoors, fallen, is_watched, watched}
-use Rattle.kernel_records.proofs.DoorNumbers.{notice_doors_numbered}
+use Rattle.spec_records.proofs.DoorNumbers.{notice_doors_numbered}
 use Rattle.kernel_core.proofs.Fallen.{fallen_watched, has_one}
 use Rattle.kernel_core.proofs.Served.{few_served, noticed_ascend}
 

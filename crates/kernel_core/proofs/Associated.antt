@@ -2,13 +2,13 @@
 use Rattle.std.proofs.Common.{◌≡◌, ℕ, ◌+◌, ◌≤◌, Bool, List, [], ◌∷◌, Option, filter, length, ap, arith}
 use Rattle.std.proofs.lemmas.List.{length-append}
 use Rattle.std.proofs.lemmas.List.Sums.{count_by-le-length, length-filter}
-use Rattle.kernel_records.specs.declared.association.Association.{Association}
-use Rattle.kernel_records.specs.Words.{AssociationList, arming_at, associations_of, events_found, has_other_key, has_other_number, is_other_timer, is_timer, new_association, new_timer, port_of, retrieve_association, retrieve_associations, with_arming}
-use Rattle.kernel_records.proofs.Places.{length-change_first}
-use Rattle.written_kernel.specs.Types.{Answer, Request}
-use Rattle.written_kernel.specs.Words.{ActResult, Channels, State, act, associations_in, key_at, object_at, port_at, process_of, settle_pools, take_found, timers_in, watched}
-use Rattle.written_kernel.proofs.Moves.{IsMaking, IsPassing, Moves, act_moves}
-use Rattle.written_kernel.proofs.Settling.{channels-settle_pools}
+use Rattle.spec_records.specs.declared.association.Association.{Association}
+use Rattle.spec_records.specs.Words.{AssociationList, arming_at, associations_of, events_found, has_other_key, has_other_number, is_other_timer, is_timer, new_association, new_timer, port_of, retrieve_association, retrieve_associations, with_arming}
+use Rattle.spec_records.proofs.Places.{length-change_first}
+use Rattle.spec_kernel.specs.Types.{Answer, Request}
+use Rattle.spec_kernel.specs.Words.{ActResult, Channels, State, act, associations_in, key_at, object_at, port_at, process_of, settle_pools, take_found, timers_in, watched}
+use Rattle.spec_kernel.proofs.Moves.{IsMaking, IsPassing, Moves, act_moves}
+use Rattle.spec_kernel.proofs.Settling.{channels-settle_pools}
 
 abbrev pub count_associations : State → ℕ
 count_associations m = length (associations_in m)

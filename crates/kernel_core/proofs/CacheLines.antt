@@ -3,9 +3,9 @@ use Rattle.std.proofs.Common.{◌≡◌, ℕ, zero, suc, ◌++◌, ◌&&◌, Boo
 use Rattle.dk_base.specs.declared.answer.Answer.TheVariants as answer
 use Rattle.dk_base.specs.declared.number.Tid.{Tid}
 use Rattle.dk_base.specs.declared.request.Request.TheVariants as request
-use Rattle.kernel_records.specs.Words.{tid}
-use Rattle.written_kernel.specs.Types.{Request, Stepped}
-use Rattle.written_kernel.specs.Words.{IsStep, State, act, forget, is_runnable, step, with_event_counted, woken_among, woken_threads}
+use Rattle.spec_records.specs.Words.{tid}
+use Rattle.spec_kernel.specs.Types.{Request, Stepped}
+use Rattle.spec_kernel.specs.Words.{IsStep, State, act, forget, is_runnable, step, with_event_counted, woken_among, woken_threads}
 use Rattle.kernel_core.specs.Entries.{is_cache_line}
 use Rattle.kernel_core.specs.Kept.{HasNothingPast}
 use Rattle.kernel_core.proofs.Live.{live_state}

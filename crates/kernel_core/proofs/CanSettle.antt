@@ -1,13 +1,13 @@
 -- What settling needs, once the act of a turn is done.
 use Rattle.std.proofs.Common.{◌≡◌, ◌⊎◌, inl, inr, ⊎_elim, ℕ, ◌&&◌, ◌||◌, Bool, true, false, [], Option, Some, None, refl, sym, subst, ap, ◌∙◌, true≢false, arith}
 use Rattle.dk_base.specs.ByNumber.{at_number}
-use Rattle.kernel_records.specs.Words.{ProcessTable, end_process, is_idle, is_pool, thread_at, with_ended}
-use Rattle.thread_set.specs.declared.set.ThreadSet.{ThreadSet}
-use Rattle.thread_set.specs.Words.{has}
-use Rattle.written_kernel.specs.Types.{Pool, Process, Request}
-use Rattle.written_kernel.specs.Words.{StandsFor, State, act, has_invalid_door, has_lost_door, state_of}
-use Rattle.pool_agreement.specs.Words.{own_pool}
-use Rattle.kernel_invariant.specs.Events.{is_leaving}
+use Rattle.spec_records.specs.Words.{ProcessTable, end_process, is_idle, is_pool, thread_at, with_ended}
+use Rattle.dk_base.specs.declared.thread_set.ThreadSet.{ThreadSet}
+use Rattle.dk_base.specs.Words.{has}
+use Rattle.spec_kernel.specs.Types.{Pool, Process, Request}
+use Rattle.spec_kernel.specs.Words.{StandsFor, State, act, has_invalid_door, has_lost_door, state_of}
+use Rattle.law_pools.specs.Words.{own_pool}
+use Rattle.law_states.specs.Events.{is_leaving}
 use Rattle.kernel_store.specs.Words.{AllIsGivenOut, ArePlaced, CanSettle, FillsOnePool, IsGivenOutToOthers, ParksAgain, StoreValue, stored_state}
 use Rattle.kernel_store.proofs.Others.{to_others}
 use Rattle.kernel_core.specs.Entries.{touched_by}

@@ -4,17 +4,17 @@ use Rattle.std.proofs.lemmas.Bool.Decides.{nat_tests}
 use Rattle.std.proofs.lemmas.List.Elements.{All-head, All-tail}
 use Rattle.dk_base.specs.ByNumber.{at_number}
 use Rattle.dk_base.specs.declared.limits.TheConstants.{USER_EVENTS_MAX}
-use Rattle.kernel_records.specs.declared.association.Association.{Association}
-use Rattle.kernel_records.specs.declared.timer.Timer.{Timer}
-use Rattle.kernel_records.specs.Words.{IsAscending, Port, association_number, is_event_of, is_number, is_user_event, port_in, state_in, timer_number}
+use Rattle.spec_records.specs.declared.association.Association.{Association}
+use Rattle.spec_records.specs.declared.timer.Timer.{Timer}
+use Rattle.spec_records.specs.Words.{IsAscending, Port, association_number, is_event_of, is_number, is_user_event, port_in, state_in, timer_number}
 use Rattle.dk_base.specs.declared.object.Obj.TheVariants as obj
-use Rattle.written_kernel.specs.Types.{Fd, Obj, Queued, Thread}
-use Rattle.written_kernel.specs.Words.{State, object_at, port, port_at, port_named, state_of, thread_of}
-use Rattle.channel_invariant.specs.Associations.{is_queued_at}
-use Rattle.channel_invariant.specs.Timers.{IsOfTimer, timer_numbered}
-use Rattle.channel_invariant.specs.Channels.{AreChannels, IsBounded, WaitsAtMade, made_in}
-use Rattle.channel_invariant.proofs.Elements.{All-at_number}
-use Rattle.channel_invariant.proofs.Tally.{count-cons, count-once, count-parted, count-weaker, has}
+use Rattle.spec_kernel.specs.Types.{Fd, Obj, Queued, Thread}
+use Rattle.spec_kernel.specs.Words.{State, object_at, port, port_at, port_named, state_of, thread_of}
+use Rattle.law_channels.specs.Associations.{is_queued_at}
+use Rattle.law_channels.specs.Timers.{IsOfTimer, timer_numbered}
+use Rattle.law_channels.specs.Channels.{AreChannels, IsBounded, WaitsAtMade, made_in}
+use Rattle.law_channels.proofs.Elements.{All-at_number}
+use Rattle.law_channels.proofs.Tally.{count-cons, count-once, count-parted, count-weaker, has}
 
 -- what carries the number of an association, or of a timer
 

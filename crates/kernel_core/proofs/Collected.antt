@@ -1,9 +1,9 @@
 -- A call that brings no objects leaves the tables, and what a caller is told depends on them alone.
 use Rattle.std.proofs.Common.{◌≡◌, ℕ, zero, suc, ◌-◌, ◌==◌, Bool, true, false, List, [], ◌∷◌, Option, Some, None, if◌then◌else◌, slice_get, slice_set, unwrap_or, refl, ap, ◌∙◌}
-use Rattle.written_kernel.specs.Types.{Call, CallStage, Obj}
-use Rattle.kernel_records.specs.declared.record.CallStage.TheVariants as stage
-use Rattle.kernel_records.specs.Words.{table_in, with_table}
-use Rattle.written_kernel.specs.Words.{State, collect_answer, collect_answer_in, has_room, tables_after_collect, tables_with}
+use Rattle.spec_kernel.specs.Types.{Call, CallStage, Obj}
+use Rattle.spec_records.specs.declared.record.CallStage.TheVariants as stage
+use Rattle.spec_records.specs.Words.{table_in, with_table}
+use Rattle.spec_kernel.specs.Words.{State, collect_answer, collect_answer_in, has_room, tables_after_collect, tables_with}
 
 -- a table that is put back changes nothing
 

@@ -3,12 +3,13 @@
 use Rattle.std.proofs.Common.{◌≡◌, ℕ, zero, suc, ◌+◌, ◌<◌, Bool, true, false, if◌then◌else◌, not, ◌==◌, ◌&&◌, ◌||◌, List, [], ◌∷◌, ◌++◌, Option, None, Some, length, filter, refl, sym, subst, ap, ap₂, ◌∙◌, arith, append-nil}
 use Rattle.std.proofs.lemmas.Bool.Decides.{nat_tests}
 use Rattle.std.specs.List.{list_any}
-use Rattle.written_kernel.specs.Types.{Door}
-use Rattle.kernel_records.specs.Words.{AreNumbered, has_notice, has_unref_multi, is_notice_of, is_valid_door, make_notice, new_notice, notice_doors, numbers_where, takes_notices, takes_notices_in}
-use Rattle.written_kernel.specs.Words.{State, door_of, falls_to_one, is_due, make_notices, now}
-use Rattle.written_kernel.proofs.Notices.{due_among, due_doors, is_number, list_any-append, make_notices-due, with_made}
-use Rattle.written_kernel.proofs.Settling.{with_notice_of}
-use Rattle.kernel_records.proofs.DoorNumbers.{filter-numbers_where, notice_doors_numbered, numbers_where-same}
+use Rattle.spec_kernel.specs.Types.{Door}
+use Rattle.spec_records.specs.Words.{AreNumbered, has_notice, has_unref_multi, is_notice_of, is_valid_door, make_notice, new_notice, notice_doors, numbers_where, takes_notices, takes_notices_in}
+use Rattle.spec_kernel.specs.Words.{State, door_of, falls_to_one, is_due, make_notices, now}
+use Rattle.spec_kernel.proofs.Notices.{due_among, due_doors, is_number, list_any-append, make_notices-due, with_made}
+use Rattle.spec_kernel.proofs.Settling.{with_notice_of}
+use Rattle.dk_base.proofs.NumbersWhere.{filter-numbers_where, numbers_where-same}
+use Rattle.spec_records.proofs.DoorNumbers.{notice_doors_numbered}
 use Rattle.kernel_store.specs.Words.{may_have_notice_in}
 use Rattle.kernel_core.specs.Watched.{fallen, make_of}
 

@@ -1,9 +1,9 @@
 -- What the end of a wait says of its thread.
 use Rattle.std.proofs.Common.{◌≡◌, ℕ, Bool, true, false, not, refl, sym, subst, ap, ◌∙◌}
-use Rattle.written_kernel.specs.Types.{Item, ThreadState}
-use Rattle.kernel_records.specs.declared.record.ThreadState.TheVariants as is
-use Rattle.written_kernel.specs.Words.{ActResult, State, can_go_on, end_getting, go_on}
-use Rattle.kernel_invariant.specs.Coherent.{is_fit_wait, is_unfit}
+use Rattle.spec_kernel.specs.Types.{Item, ThreadState}
+use Rattle.spec_records.specs.declared.record.ThreadState.TheVariants as is
+use Rattle.spec_kernel.specs.Words.{ActResult, State, can_go_on, end_getting, go_on}
+use Rattle.law_states.specs.Coherent.{is_fit_wait, is_unfit}
 use Rattle.kernel_store.specs.Words.{IsActive}
 use Rattle.kernel_core.specs.declared.acts.Ending.{Ending}
 use Rattle.kernel_core.specs.declared.acts.Ending.TheVariants as ending

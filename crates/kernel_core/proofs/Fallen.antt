@@ -1,15 +1,16 @@
 -- The doors whose references have fallen to one after an act are among those that were watched before it, in the same order.
 use Rattle.std.proofs.Common.{◌≡◌, ℕ, ◌≤◌, Bool, true, false, if◌then◌else◌, true≢false, ◌==◌, ◌&&◌, nat_lt, List, [], ◌∷◌, Option, None, Some, IsSome, filter, length, refl, sym, ap, ◌∙◌, arith}
 use Rattle.std.proofs.lemmas.Bool.Decides.{nat_tests}
-use Rattle.written_kernel.specs.Types.{Door}
-use Rattle.kernel_records.specs.Words.{AreNumbered, notice_doors, takes_notices, takes_notices_in}
-use Rattle.written_kernel.specs.Words.{State, door_of, falls_to_one, reference_count}
-use Rattle.kernel_records.proofs.Lists.{numbered_past, numbered_there, numbered_within}
+use Rattle.spec_kernel.specs.Types.{Door}
+use Rattle.spec_records.specs.Words.{AreNumbered, notice_doors, takes_notices, takes_notices_in}
+use Rattle.spec_kernel.specs.Words.{State, door_of, falls_to_one, reference_count}
+use Rattle.spec_records.proofs.Lists.{numbered_past, numbered_there, numbered_within}
 use Rattle.unref_notice.specs.Words.{was_shared}
 use Rattle.kernel_store.specs.Words.{HasBegun, StoreValue, has_fallen_since, stored_state}
 use Rattle.kernel_core.specs.Watched.{BeganIn, IsKeptDoor, KeepsDoors, fallen, is_watched, watched}
-use Rattle.kernel_records.proofs.DoorNumbers.{filter-numbers_where, notice_doors_numbered, numbers_where-past, numbers_where-same}
-use Rattle.pool_agreement.proofs.WaitingLists.{same_filter}
+use Rattle.dk_base.proofs.NumbersWhere.{filter-numbers_where, numbers_where-past, numbers_where-same}
+use Rattle.spec_records.proofs.DoorNumbers.{notice_doors_numbered}
+use Rattle.law_pools.proofs.WaitingLists.{same_filter}
 
 filter-both : (p q : ℕ → Bool) (ds : List ℕ) → filter (λ d. p d && q d) ds ≡ filter q (filter p ds)
 filter-both p q [] = refl

@@ -1,17 +1,17 @@
 -- What follows the act of an event stands on what was taken before the act, and on what the act did.
 use Rattle.std.proofs.Common.{◌≡◌, ℕ, ◌+◌, ◌≤◌, ◌&&◌, List, Option, None, Some, true, length, refl, sym, subst, ap, ap₂, ◌∙◌, arith}
-use Rattle.act_changes.specs.Changed.{IsAfterAct, readied_by}
-use Rattle.act_changes.specs.Closed.{Closing, closed_by, closed_rows}
-use Rattle.act_changes.specs.Ends.{is_end}
-use Rattle.act_changes.proofs.Kept.{forgotten_is_after, gone-settle_pools, settled_is_after}
-use Rattle.associated_ports.specs.Words.{HasRoomToEnd}
+use Rattle.law_channels.specs.Changed.{IsAfterAct, readied_by}
+use Rattle.law_channels.specs.Closed.{Closing, closed_by, closed_rows}
+use Rattle.law_channels.specs.Ends.{is_end}
+use Rattle.law_channels.proofs.Kept.{forgotten_is_after, gone-settle_pools, settled_is_after}
+use Rattle.kernel_ports.specs.Words.{HasRoomToEnd}
 use Rattle.dk_base.specs.Words.{RoomValue}
 use Rattle.kernel_store.specs.declared.told.ClosedRows.{ClosedRows}
 use Rattle.kernel_store.specs.declared.told.ClosedRows.TheVariants as closed
 use Rattle.kernel_store.specs.declared.told.TellingRooms.{TellingRooms}
-use Rattle.written_kernel.specs.Types.{Answer, Fd, Obj, Request, Stepped}
-use Rattle.written_kernel.specs.Words.{IsStep, StandsFor, State, act, enter, forget, give, has_first_common_door, process_of, settle, settle_pools, step, tell, with_event_counted, woken_threads}
-use Rattle.pool_agreement.specs.Words.{IsGivenOut, is_this}
+use Rattle.spec_kernel.specs.Types.{Answer, Fd, Obj, Request, Stepped}
+use Rattle.spec_kernel.specs.Words.{IsStep, StandsFor, State, act, enter, forget, give, has_first_common_door, process_of, settle, settle_pools, step, tell, with_event_counted, woken_threads}
+use Rattle.law_pools.specs.Words.{IsGivenOut, is_this}
 use Rattle.kernel_store.specs.Words.{AreGone, ArePlaced, FillsNoPool, HasBegun, HasOpened, IsAtRest, IsInEvent, IsLeftToTell, KeepsForNotices, KeepsPools, ReadiesAtMost, StoreValue, can_turn, closing_of, is_of_pipe, stored_state}
 use Rattle.kernel_core.specs.declared.event.Parts.{Parts}
 use Rattle.kernel_core.specs.declared.event.Taken.{Taken}

@@ -4,14 +4,14 @@ use Rattle.std.proofs.lemmas.Bool.Decides.{nat_tests}
 use Rattle.std.proofs.lemmas.List.Quantifiers.{position-Some}
 use Rattle.std.proofs.lemmas.Option.{slice_get-get_or}
 use Rattle.dk_base.specs.ByNumber.{at_number}
-use Rattle.kernel_records.specs.declared.pool.TheConstants.{LOST_DOOR}
-use Rattle.kernel_records.specs.declared.record.ThreadState.TheVariants as is
-use Rattle.kernel_records.specs.Words.{Leaving, begun_thread, bound_at, first_place, forking, is_first_of, left_thread_of, new_thread, state_in, thread_at_state}
-use Rattle.kernel_records.proofs.Lists.{at_number-map, at_number-suc, at_number-with_at_number}
-use Rattle.written_kernel.specs.Leaving.{bind_first}
-use Rattle.written_kernel.specs.Types.{Thread}
-use Rattle.written_kernel.specs.Words.{State, bound_of, fork, leave, now, state_of, thread_of}
-use Rattle.written_kernel.proofs.Threads.{left_thread_of-same, thread_at-begin_process}
+use Rattle.spec_records.specs.declared.pool.TheConstants.{LOST_DOOR}
+use Rattle.spec_records.specs.declared.record.ThreadState.TheVariants as is
+use Rattle.spec_records.specs.Words.{Leaving, begun_thread, bound_at, first_place, forking, is_first_of, left_thread_of, new_thread, state_in, thread_at_state}
+use Rattle.spec_records.proofs.Lists.{at_number-map, at_number-suc, at_number-with_at_number}
+use Rattle.spec_kernel.specs.Leaving.{bind_first}
+use Rattle.spec_kernel.specs.Types.{Thread}
+use Rattle.spec_kernel.specs.Words.{State, bound_of, fork, leave, now, state_of, thread_of}
+use Rattle.spec_kernel.proofs.Threads.{left_thread_of-same, thread_at-begin_process}
 
 module _ (m : State) (t p child : ℕ) where
   abbrev n : State

@@ -2,11 +2,11 @@
 use Rattle.std.proofs.Common.{◌≡◌, ℕ, ◌≤◌, true, false, List, [], ◌∷◌, Option, None, Some, length, suc, refl, sym, subst, ap, ◌∙◌, arith}
 use Rattle.dk_base.specs.ByNumber.{at_number}
 use Rattle.dk_base.specs.declared.request.Request.TheVariants as request
-use Rattle.kernel_records.specs.Words.{descriptor, first_refusal, is_dormant, is_live_in, is_unborn_in, object_named, objects_of, pid}
-use Rattle.kernel_records.proofs.Lists.{numbered_within}
-use Rattle.written_kernel.specs.Types.{Fd, Obj, Process, Request}
-use Rattle.written_kernel.specs.Words.{IsFit, State, forking_tests, is_live_process, is_unborn_process, parent_of, process_of, table_of}
-use Rattle.kernel_invariant.specs.Invariant.{IsChildOf, Invariant}
+use Rattle.spec_records.specs.Words.{descriptor, first_refusal, is_dormant, is_live_in, is_unborn_in, object_named, objects_of, pid}
+use Rattle.spec_records.proofs.Lists.{numbered_within}
+use Rattle.spec_kernel.specs.Types.{Fd, Obj, Process, Request}
+use Rattle.spec_kernel.specs.Words.{IsFit, State, forking_tests, is_live_process, is_unborn_process, parent_of, process_of, table_of}
+use Rattle.law_states.specs.Invariant.{IsChildOf, Invariant}
 use Rattle.kernel_store.specs.Words.{MayBegin}
 use Rattle.kernel_core.specs.Forking.{MayFork}
 use Rattle.kernel_core.specs.Kept.{IsKept}

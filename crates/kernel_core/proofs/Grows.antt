@@ -3,31 +3,31 @@ use Rattle.std.proofs.Common.{◌≡◌, ℕ, suc, ◌+◌, ◌≤◌, ◌&&◌,
 use Rattle.std.specs.List.{cons_option}
 use Rattle.std.proofs.lemmas.Bool.{ltb-false, or_parts}
 use Rattle.std.proofs.lemmas.List.{length-map, length-take}
-use Rattle.written_kernel.proofs.Moves.{IsPassing, Moves, act_moves, act_result}
-use Rattle.written_kernel.proofs.Moves.IsMaking.{makes_pipe, makes_port}
-use Rattle.written_kernel.proofs.Moves.IsPassing.{advances, alerts, associates, creates_timer, deletes_timer, dissociates, gets, gets_many, reads, sends, sends_each, sets_timer, writes}
-use Rattle.written_kernel.proofs.Moves.IsSaid.{refused, replies}
-use Rattle.written_kernel.proofs.Moves.IsRow.{closes}
-use Rattle.written_kernel.proofs.Moves.IsTurn.{awaits, starts_work, works}
-use Rattle.written_kernel.specs.Types.{Answer, Attrs, Call, CallStage, Door, Errno, Fd, Item, Obj, Parked, Pass, Queued, Request, Thread, ThreadState, Waiting, Param}
+use Rattle.spec_kernel.proofs.Moves.{IsPassing, Moves, act_moves, act_result}
+use Rattle.spec_kernel.proofs.Moves.IsMaking.{makes_pipe, makes_port}
+use Rattle.spec_kernel.proofs.Moves.IsPassing.{advances, alerts, associates, creates_timer, deletes_timer, dissociates, gets, gets_many, reads, sends, sends_each, sets_timer, writes}
+use Rattle.spec_kernel.proofs.Moves.IsSaid.{refused, replies}
+use Rattle.spec_kernel.proofs.Moves.IsRow.{closes}
+use Rattle.spec_kernel.proofs.Moves.IsTurn.{awaits, starts_work, works}
+use Rattle.spec_kernel.specs.Types.{Answer, Attrs, Call, CallStage, Door, Errno, Fd, Item, Obj, Parked, Pass, Queued, Request, Thread, ThreadState, Waiting, Param}
 use Rattle.dk_base.specs.declared.limits.TheConstants.{ANSWER_ITEMS_MAX}
 use Rattle.dk_base.specs.declared.error.Errno.TheVariants.{EBADF, E2BIG, EMFILE, ENFILE, ENOBUFS, ENOTSUP}
 use Rattle.dk_base.specs.declared.object.Item.TheVariants as item
 use Rattle.dk_base.specs.declared.answer.Answer.TheVariants as answer
-use Rattle.kernel_records.specs.declared.record.ThreadState.TheVariants as is
-use Rattle.kernel_records.specs.declared.record.CallStage.TheVariants as stage
-use Rattle.kernel_records.specs.declared.port.Alert.{Alert}
+use Rattle.spec_records.specs.declared.record.ThreadState.TheVariants as is
+use Rattle.spec_records.specs.declared.record.CallStage.TheVariants as stage
+use Rattle.spec_records.specs.declared.port.Alert.{Alert}
 use Rattle.dk_base.specs.ByNumber.{at_number}
-use Rattle.kernel_records.specs.Words.{CallTree, NoticeList, Port, ProcessTable, events_found, first_found, found_at, record_of, records_of, at_stage, change_first, change_thread, change_thread_in, end_notice, begin_process, begun_thread, enter_notice, first_refusal, forking, idle_thread, insert_row, is_client_call_of, is_given_as, is_live_call, is_queued_as, is_to_collect_as, left_call, new_descriptors, object_passed, objects_passed, process_end, return_call, revocation, revoked_door, thread_at, thread_at_state, thread_in_invocation, thread_outside, tid, unbind_thread, with_owner_ended, without_arguments_at, Leaving, Test, change_door, change_door_in, refused_where, with_param, has_refused_size, has_too_many, is_valid_in, refuses_descriptors_in}
-use Rattle.written_kernel.specs.Words.{ActResult, Channels, IsFit, StandsFor, State, after_sending, errors_of_sending, event_answer, fork, found_answer, held_in, pipe_at, port, port_at, act, call, call_tests, client_call, collect, collect_answer, collect_answer_in, create, door_named, find_call, fail_return, give_one, has_lost_door, has_room, is_due, leave, leave_process, new_call, now, object_at, objects_collected_in, pass_tests, pick, pool_of, process_of, return_tests, revoke, settle, state_of, table_of, tables_after_collect, tables_after_pass, tables_with, tell, with_state, set_parameter, door_at, door_of, pool_tests}
-use Rattle.kernel_records.proofs.Lists.{length-with_at_number}
-use Rattle.kernel_records.proofs.Places.{length-change_first}
-use Rattle.written_kernel.proofs.CallLists.{IsOver, left_call-over}
-use Rattle.written_kernel.proofs.Threads.{threads-begin_process}
-use Rattle.written_kernel.proofs.Leaving.{calls-leave, threads-leave, threads_of-leave_process}
-use Rattle.written_kernel.proofs.Settling.{settle-all, with_notice_of}
-use Rattle.channel_invariant.specs.Channels.{IsAmong, Made, WaitsAtMade, made_in}
-use Rattle.answering_kernel.specs.Small.{IsSmall}
+use Rattle.spec_records.specs.Words.{CallTree, NoticeList, Port, ProcessTable, events_found, first_found, found_at, record_of, records_of, at_stage, change_first, change_thread, change_thread_in, end_notice, begin_process, begun_thread, enter_notice, first_refusal, forking, idle_thread, insert_row, is_client_call_of, is_given_as, is_live_call, is_queued_as, is_to_collect_as, left_call, new_descriptors, object_passed, objects_passed, process_end, return_call, revocation, revoked_door, thread_at, thread_at_state, thread_in_invocation, thread_outside, tid, unbind_thread, with_owner_ended, without_arguments_at, Leaving, Test, change_door, change_door_in, refused_where, with_param, has_refused_size, has_too_many, is_valid_in, refuses_descriptors_in}
+use Rattle.spec_kernel.specs.Words.{ActResult, Channels, IsFit, StandsFor, State, after_sending, errors_of_sending, event_answer, fork, found_answer, held_in, pipe_at, port, port_at, act, call, call_tests, client_call, collect, collect_answer, collect_answer_in, create, door_named, find_call, fail_return, give_one, has_lost_door, has_room, is_due, leave, leave_process, new_call, now, object_at, objects_collected_in, pass_tests, pick, pool_of, process_of, return_tests, revoke, settle, state_of, table_of, tables_after_collect, tables_after_pass, tables_with, tell, with_state, set_parameter, door_at, door_of, pool_tests}
+use Rattle.spec_records.proofs.Lists.{length-with_at_number}
+use Rattle.spec_records.proofs.Places.{length-change_first}
+use Rattle.spec_kernel.proofs.CallLists.{IsOver, left_call-over}
+use Rattle.spec_kernel.proofs.Threads.{threads-begin_process}
+use Rattle.spec_kernel.proofs.Leaving.{calls-leave, threads-leave, threads_of-leave_process}
+use Rattle.spec_kernel.proofs.Settling.{settle-all, with_notice_of}
+use Rattle.law_channels.specs.Channels.{IsAmong, Made, WaitsAtMade, made_in}
+use Rattle.spec_kernel.specs.Small.{IsSmall}
 use Rattle.kernel_core.specs.Within.{IsSmallStage, IsSmallCall, AreSmall}
 
 pub record Grows (k : ℕ) (m n : State) : Type 0 where
@@ -176,7 +176,7 @@ door-tidy m n t q a e threads calls events doors small =
 create-tidy : (m : State) (t : ℕ) (q : Option Request) (p entry cookie : ℕ) (attrs : Attrs) → IsTidy m t q (create m p entry cookie attrs)
 create-tidy m t q p entry cookie attrs =
     door-tidy m (create m p entry cookie attrs).state t q (create m p entry cookie attrs) refl refl refl refl
-    (omega (arith, length-append m.doors ((Rattle.kernel_records.specs.Doors.new_door (length m.doors + 1) p entry cookie attrs) ∷ [])))
+    (omega (arith, length-append m.doors ((Rattle.spec_records.specs.Doors.new_door (length m.doors + 1) p entry cookie attrs) ∷ [])))
     tt
 
 length-change_door : (doors : List Door) (d : ℕ) (change : Door → Door) → length (change_door doors d change) ≡ length doors

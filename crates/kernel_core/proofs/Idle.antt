@@ -1,8 +1,8 @@
 -- What a thread that runs is.
 use Rattle.std.proofs.Common.{◌≡◌, ℕ, refl, arith, true}
-use Rattle.written_kernel.specs.Types.{ThreadState}
-use Rattle.kernel_records.specs.declared.record.ThreadState.TheVariants as is
-use Rattle.written_kernel.specs.Words.{State, is_running, is_running_state, state_of}
+use Rattle.spec_kernel.specs.Types.{ThreadState}
+use Rattle.spec_records.specs.declared.record.ThreadState.TheVariants as is
+use Rattle.spec_kernel.specs.Words.{State, is_running, is_running_state, state_of}
 use Rattle.kernel_store.specs.Words.{IsActive}
 
 -- a thread that runs

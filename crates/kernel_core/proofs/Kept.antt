@@ -1,45 +1,45 @@
 -- A kernel's events keep that what it keeps comes from a written state, and a refused entry changes nothing else.
 use Rattle.std.proofs.Common.{◌≡◌, ℕ, ◌+◌, ◌*◌, ◌<◌, ◌≤◌, ◌||◌, ⊎_elim, true≢false, Bool, true, false, if◌then◌else◌, not, List, Option, Some, None, Result, Ok, Err, IfOk, OnOk, OnErr, slice_get, length, refl, subst, sym, ap, ◌∙◌, arith, All, is_some}
 use Rattle.std.specs.List.{list_any}
-use Rattle.kernel_records.proofs.NumberedLists.{find-slice_get}
-use Rattle.written_kernel.specs.Types.{Call, CallStage, Door, Errno, NoMemory, Notice, NoticeStage, Process, Request, Stepped, Thread, ThreadState, Tid}
+use Rattle.spec_records.proofs.NumberedLists.{find-slice_get}
+use Rattle.spec_kernel.specs.Types.{Call, CallStage, Door, Errno, NoMemory, Notice, NoticeStage, Process, Request, Stepped, Thread, ThreadState, Tid}
 use Rattle.dk_base.specs.declared.answer.Answer.TheVariants.{Failure}
 use Rattle.dk_base.specs.declared.limits.TheConstants.{ADVANCE_MAX, EVENTS_MAX, THREADS_MAX}
-use Rattle.written_kernel.specs.Words.{IsOpening, IsStep, MayTurn, StandsFor, State, act, effect, forget, has_lost_door, opening, pick, pool_of, invocation_of, state_of, process_of, refusal_of, step, unless_refused, waiting_items, with_child, with_event_counted, with_new_thread, bound_of, is_live_process, is_thread_of, is_unborn_process, door_of, port, port_at, table_of, thread_of}
-use Rattle.written_kernel.specs.Opening.IsOpening.{child, processes, thread}
-use Rattle.written_kernel.proofs.Forget.{IsStep-stands_for, act-forget, is_runnable-forget, refusal_of-forget, waiting_items-forget}
+use Rattle.spec_kernel.specs.Words.{IsOpening, IsStep, MayTurn, StandsFor, State, act, effect, forget, has_lost_door, opening, pick, pool_of, invocation_of, state_of, process_of, refusal_of, step, unless_refused, waiting_items, with_child, with_event_counted, with_new_thread, bound_of, is_live_process, is_thread_of, is_unborn_process, door_of, port, port_at, table_of, thread_of}
+use Rattle.spec_kernel.specs.Opening.IsOpening.{child, processes, thread}
+use Rattle.spec_kernel.proofs.Forget.{IsStep-stands_for, act-forget, is_runnable-forget, refusal_of-forget, waiting_items-forget}
 use Rattle.dk_base.specs.ByNumber.{at_number}
 use Rattle.std.proofs.lemmas.Bool.Decides.{nat_tests}
-use Rattle.kernel_records.specs.declared.record.CallStage.TheVariants as stage
-use Rattle.kernel_records.specs.declared.record.NoticeStage.TheVariants as notice
-use Rattle.kernel_records.specs.declared.record.ThreadState.TheVariants as is
+use Rattle.spec_records.specs.declared.record.CallStage.TheVariants as stage
+use Rattle.spec_records.specs.declared.record.NoticeStage.TheVariants as notice
+use Rattle.spec_records.specs.declared.record.ThreadState.TheVariants as is
 use Rattle.dk_base.specs.declared.object.Item.TheVariants as item
-use Rattle.kernel_records.specs.Words.{call_number, is_kept_notice, is_live_call, is_live_in, is_live_stage, is_owned_by, is_private_in, is_queued, is_unborn_in, is_unborn_stage, is_valid_door, is_valid_in, is_waiting_stage, notice_number, process_in, tid}
-use Rattle.kernel_records.proofs.Lists.{numbered_there}
-use Rattle.written_kernel.proofs.Opening.{IsDeclaredIn, forget-opening, opened}
-use Rattle.written_kernel.proofs.Steps.{events-step}
-use Rattle.channel_invariant.specs.Channels.{AreChannels}
-use Rattle.channel_invariant.proofs.Acts.{step_fits}
-use Rattle.channel_invariant.proofs.Runs.{opening_fits}
-use Rattle.kernel_records.specs.declared.pool.TheConstants.{LOST_DOOR}
-use Rattle.kernel_invariant.specs.Coherent.{bound_for, is_unfit}
-use Rattle.kernel_invariant.specs.Core.{door_in, is_outside, notice_in, noticed_door_in, number_in}
-use Rattle.kernel_invariant.specs.Events.{Keeps, may_lose_door}
-use Rattle.kernel_invariant.specs.Invariant.{IsConsistent}
-use Rattle.kernel_invariant.specs.Told.{AreTold}
-use Rattle.act_changes.specs.Changed.{OnlyLiveHaveRows, UnbornHaveNoRows}
-use Rattle.act_changes.proofs.Kept.{told-forget, told-kept, unborn_have_none}
-use Rattle.kernel_invariant.specs.Records.{item_in, notice_of, owner_in, record_of, stage_in}
+use Rattle.spec_records.specs.Words.{call_number, is_kept_notice, is_live_call, is_live_in, is_live_stage, is_owned_by, is_private_in, is_queued, is_unborn_in, is_unborn_stage, is_valid_door, is_valid_in, is_waiting_stage, notice_number, process_in, tid}
+use Rattle.spec_records.proofs.Lists.{numbered_there}
+use Rattle.spec_kernel.proofs.Opening.{IsDeclaredIn, forget-opening, opened}
+use Rattle.spec_kernel.proofs.Steps.{events-step}
+use Rattle.law_channels.specs.Channels.{AreChannels}
+use Rattle.law_channels.proofs.Acts.{step_fits}
+use Rattle.law_channels.proofs.Runs.{opening_fits}
+use Rattle.spec_records.specs.declared.pool.TheConstants.{LOST_DOOR}
+use Rattle.law_states.specs.Coherent.{bound_for, is_unfit}
+use Rattle.law_states.specs.Core.{door_in, is_outside, notice_in, noticed_door_in, number_in}
+use Rattle.law_states.specs.Events.{Keeps, may_lose_door}
+use Rattle.law_states.specs.Invariant.{IsConsistent}
+use Rattle.law_states.specs.Told.{AreTold}
+use Rattle.law_channels.specs.Changed.{OnlyLiveHaveRows, UnbornHaveNoRows}
+use Rattle.law_channels.proofs.Kept.{told-forget, told-kept, unborn_have_none}
+use Rattle.law_states.specs.Records.{item_in, notice_of, owner_in, record_of, stage_in}
 use Rattle.kernel_store.specs.Words.{AreHeld, ArePlaced, WaitAtValidDoors, held_as, stored_state}
 use Rattle.kernel_core.specs.declared.event.Parts.{Parts}
 use Rattle.kernel_core.specs.Acted.{CanStep, IsBetweenEvents}
 use Rattle.kernel_core.proofs.CacheLines.{line_changes_nothing}
 use Rattle.kernel_core.proofs.Live.{live_state, stands_live}
-use Rattle.kernel_invariant.proofs.Events.{step_keeps}
-use Rattle.kernel_invariant.proofs.Openings.{opening_keeps}
-use Rattle.kernel_invariant.proofs.Refusals.{refused_gives, unchanged_gives}
-use Rattle.kernel_invariant.proofs.Settling.{no_lost_door}
-use Rattle.kernel_invariant.proofs.Steps.{act_does}
+use Rattle.law_states.proofs.Events.{step_keeps}
+use Rattle.law_states.proofs.Openings.{opening_keeps}
+use Rattle.law_states.proofs.Refusals.{refused_gives, unchanged_gives}
+use Rattle.law_states.proofs.Settling.{no_lost_door}
+use Rattle.law_states.proofs.Steps.{act_does}
 use Rattle.kernel_core.specs.Entries.{is_cache_line}
 use Rattle.kernel_core.specs.Kept.{IsKept}
 use Rattle.kernel_core.specs.Numbers.{HasNumbersLeft}

@@ -2,26 +2,26 @@
 -- notices so, but for an act by which a call or a notice ends, after which it leaves its list.
 use Rattle.std.proofs.Common.{◌≡◌, ℕ, suc, ◌+◌, ◌++◌, ◌&&◌, Bool, true, false, not, cond, if◌then◌else◌, List, [], ◌∷◌, Option, Some, None, filter, refl, sym, subst, ap, ap₂, ◌∙◌, arith, true≢false, ◌==◌, option_map, slice_get, is_some}
 use Rattle.std.proofs.lemmas.Bool.Decides.{nat_tests}
-use Rattle.written_kernel.specs.Types.{Call, Door, Errno, Fd, Item, Notice, NoticeStage, Param, Pass, Request}
+use Rattle.spec_kernel.specs.Types.{Call, Door, Errno, Fd, Item, Notice, NoticeStage, Param, Pass, Request}
 use Rattle.dk_base.specs.ByNumber.{at_number}
 use Rattle.dk_base.specs.declared.request.Param.TheVariants as param
-use Rattle.kernel_records.specs.declared.record.NoticeStage.TheVariants as notice
+use Rattle.spec_records.specs.declared.record.NoticeStage.TheVariants as notice
 use Rattle.dk_base.specs.declared.object.Item.TheVariants as item
 use Rattle.dk_base.specs.declared.request.Request.TheVariants as request
-use Rattle.kernel_records.specs.declared.record.ThreadState.TheVariants as is
-use Rattle.kernel_records.specs.declared.record.CallStage.TheVariants as stage
-use Rattle.kernel_records.specs.Words.{at_stage, change_first, change_door, close_row, close_table, end_notice, end_owner, end_process, has_many, has_unref_multi, is_client_call_of, is_given_as, is_given_notice_as, is_kept_notice, is_live_call, is_past_stage, is_queued_as, is_waiting_notice_as, kept_notices, new_notice, notice_at, objects_passed, process_end, revocation, revoke_door, revoked_door, set_param, tid, with_owner_ended, with_param, with_table, without_arguments_at}
-use Rattle.written_kernel.proofs.Moves.{IsEnding, IsLeaving, Moves, act_moves, effect_moves, is_leave}
-use Rattle.written_kernel.specs.Words.{ActResult, process_of, refusal_of, state_of, State, StandsFor, collect, door_at, effect, enter, forget, give_one, go_on, has_invalid_door, leave, leave_process, now, return, return_parked, return_unbound, revoke, settle, table_of, unless_refused}
-use Rattle.kernel_invariant.specs.Events.{is_leaving}
+use Rattle.spec_records.specs.declared.record.ThreadState.TheVariants as is
+use Rattle.spec_records.specs.declared.record.CallStage.TheVariants as stage
+use Rattle.spec_records.specs.Words.{at_stage, change_first, change_door, close_row, close_table, end_notice, end_owner, end_process, has_many, has_unref_multi, is_client_call_of, is_given_as, is_given_notice_as, is_kept_notice, is_live_call, is_past_stage, is_queued_as, is_waiting_notice_as, kept_notices, new_notice, notice_at, objects_passed, process_end, revocation, revoke_door, revoked_door, set_param, tid, with_owner_ended, with_param, with_table, without_arguments_at}
+use Rattle.spec_kernel.proofs.Moves.{IsEnding, IsLeaving, Moves, act_moves, effect_moves, is_leave}
+use Rattle.spec_kernel.specs.Words.{ActResult, process_of, refusal_of, state_of, State, StandsFor, collect, door_at, effect, enter, forget, give_one, go_on, has_invalid_door, leave, leave_process, now, return, return_parked, return_unbound, revoke, settle, table_of, unless_refused}
+use Rattle.law_states.specs.Events.{is_leaving}
 use Rattle.call_tree.specs.Words.{AreLive}
-use Rattle.pool_agreement.specs.Words.{AreKept}
+use Rattle.law_pools.specs.Words.{AreKept}
 use Rattle.kernel_store.specs.Words.{ArePlaced}
 use Rattle.kernel_core.specs.Kept.{HasNothingPast}
-use Rattle.written_kernel.proofs.Doors.{at_number-change_door, with_owner_ended-same}
-use Rattle.kernel_records.proofs.Lists.{at_number-map, numbered_front}
-use Rattle.written_kernel.proofs.NoticeLists.{kept_where}
-use Rattle.written_kernel.proofs.Settling.{settle-all}
+use Rattle.spec_kernel.proofs.Doors.{at_number-change_door, with_owner_ended-same}
+use Rattle.spec_records.proofs.Lists.{at_number-map, numbered_front}
+use Rattle.spec_kernel.proofs.NoticeLists.{kept_where}
+use Rattle.spec_kernel.proofs.Settling.{settle-all}
 
 -- lists
 

@@ -4,20 +4,20 @@ use Rattle.std.proofs.Common.{◌≡◌, ◌⊎◌, inl, inr, ⊎_elim, ℕ, ◌
 use Rattle.std.proofs.lemmas.Bool.Decides.{nat_tests}
 use Rattle.dk_base.specs.ByNumber.{at_number}
 use Rattle.dk_base.specs.declared.object.Item.TheVariants as item
-use Rattle.kernel_records.specs.declared.pool.Pool.TheVariants.{Private}
-use Rattle.kernel_records.specs.declared.pool.TheConstants.{LOST_DOOR}
-use Rattle.kernel_records.specs.declared.record.ThreadState.TheVariants as is
-use Rattle.kernel_records.specs.Words.{Leaving, ProcessTable, change_thread, deserted_in, ended_thread, idle_thread, interrupted_where, is_idle, is_owned_by, is_pool, is_served_by, is_valid_in, left_thread_of, left_threads, process_end, process_in, revoke_door, revoked_door, state_in, thread_at, thread_at_state, thread_in_invocation, with_ended, with_owner_ended}
-use Rattle.kernel_records.proofs.Lists.{at_number-map}
-use Rattle.written_kernel.specs.Types.{Door, Pool, Process, Request, Thread}
-use Rattle.written_kernel.specs.Words.{ActResult, State, act, bound_of, door_at, fork, has_invalid_door, has_lost_door, is_bound_to_invalid, leave, leave_process, now, process_of, revoke, state_of, thread_of}
-use Rattle.written_kernel.proofs.Doors.{at_number-change_door}
-use Rattle.written_kernel.proofs.Failing.{has_lost_door-same}
-use Rattle.written_kernel.proofs.Moves.{IsBinding, IsTurn, Moves, act_moves}
-use Rattle.kernel_invariant.specs.Events.{is_leaving}
-use Rattle.pool_agreement.specs.Words.{own_pool, pool_by}
-use Rattle.pool_agreement.proofs.Readers.{is_pool-self, same_number}
-use Rattle.pool_agreement.proofs.Stacks.{thread_elsewhere, thread_there}
+use Rattle.spec_records.specs.declared.pool.Pool.TheVariants.{Private}
+use Rattle.spec_records.specs.declared.pool.TheConstants.{LOST_DOOR}
+use Rattle.spec_records.specs.declared.record.ThreadState.TheVariants as is
+use Rattle.spec_records.specs.Words.{Leaving, ProcessTable, change_thread, deserted_in, ended_thread, idle_thread, interrupted_where, is_idle, is_owned_by, is_pool, is_served_by, is_valid_in, left_thread_of, left_threads, process_end, process_in, revoke_door, revoked_door, state_in, thread_at, thread_at_state, thread_in_invocation, with_ended, with_owner_ended}
+use Rattle.spec_records.proofs.Lists.{at_number-map}
+use Rattle.spec_kernel.specs.Types.{Door, Pool, Process, Request, Thread}
+use Rattle.spec_kernel.specs.Words.{ActResult, State, act, bound_of, door_at, fork, has_invalid_door, has_lost_door, is_bound_to_invalid, leave, leave_process, now, process_of, revoke, state_of, thread_of}
+use Rattle.spec_kernel.proofs.Doors.{at_number-change_door}
+use Rattle.spec_kernel.proofs.Failing.{has_lost_door-same}
+use Rattle.spec_kernel.proofs.Moves.{IsBinding, IsTurn, Moves, act_moves}
+use Rattle.law_states.specs.Events.{is_leaving}
+use Rattle.law_pools.specs.Words.{own_pool, pool_by}
+use Rattle.law_pools.proofs.Readers.{is_pool-self, same_number}
+use Rattle.law_pools.proofs.Stacks.{thread_elsewhere, thread_there}
 use Rattle.kernel_store.specs.Words.{ArePlaced}
 use Rattle.kernel_core.specs.Entries.{touched_by}
 use Rattle.kernel_core.proofs.FirstRuns.{bound_or_runs}

@@ -1,9 +1,9 @@
 -- Notices that are made one by one: where the doors, processes and notices are, and the room that is left.
 use Rattle.std.proofs.Common.{◌≡◌, ℕ, zero, suc, ◌+◌, true, true≢false, List, [], ◌∷◌, ◌++◌, Option, None, Some, is_some, slice_get, refl, sym, subst}
-use Rattle.written_kernel.specs.Types.{Door, Notice}
-use Rattle.kernel_records.specs.Words.{new_notice}
-use Rattle.written_kernel.specs.Words.{State, door_of, now}
-use Rattle.written_kernel.proofs.Settling.{with_notice_of}
+use Rattle.spec_kernel.specs.Types.{Door, Notice}
+use Rattle.spec_records.specs.Words.{new_notice}
+use Rattle.spec_kernel.specs.Words.{State, door_of, now}
+use Rattle.spec_kernel.proofs.Settling.{with_notice_of}
 use Rattle.kernel_store.specs.Words.{ArePlaced, may_have_notice_in}
 
 -- places

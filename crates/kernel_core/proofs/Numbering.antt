@@ -2,12 +2,12 @@
 use Rattle.std.proofs.Common.{◌≡◌, ℕ, ◌+◌, ◌≤◌, List, [], ◌∷◌, length, refl, ap, ◌∙◌, arith}
 use Rattle.std.proofs.lemmas.List.Sums.{count_by-le-length, length-filter}
 use Rattle.dk_base.specs.declared.object.Item.TheVariants as item
-use Rattle.kernel_records.specs.Words.{AreNumbered, NoticeList, make_notice}
-use Rattle.written_kernel.specs.Types.{Item}
-use Rattle.written_kernel.specs.Words.{State, fail_returns, give_one, make_notices, now, settle}
-use Rattle.written_kernel.proofs.NoticeLists.{with_new_notices}
-use Rattle.written_kernel.proofs.Notices.{due_doors, notice_list-make_notices}
-use Rattle.written_kernel.proofs.Settling.{fail_returns-all, give_and_start-all}
+use Rattle.spec_records.specs.Words.{AreNumbered, NoticeList, make_notice}
+use Rattle.spec_kernel.specs.Types.{Item}
+use Rattle.spec_kernel.specs.Words.{State, fail_returns, give_one, make_notices, now, settle}
+use Rattle.spec_kernel.proofs.NoticeLists.{with_new_notices}
+use Rattle.spec_kernel.proofs.Notices.{due_doors, notice_list-make_notices}
+use Rattle.spec_kernel.proofs.Settling.{fail_returns-all, give_and_start-all}
 use Rattle.kernel_core.specs.Watched.{fallen}
 use Rattle.kernel_core.proofs.Acted.{made}
 use Rattle.kernel_core.proofs.Due.{due_doors-fallen, may_have}

@@ -2,12 +2,12 @@
 use Rattle.std.proofs.Common.{◌≡◌, ℕ, ◌+◌, ◌<◌, ◌∷◌, [], zero, suc, Bool, true, false, List, Option, Some, None, length, slice_get, filter, cond, inl, inr, refl, sym, ap, ap₂, ◌∙◌, arith}
 use Rattle.std.proofs.lemmas.Bool.{cases_lt}
 use Rattle.std.specs.Option.{option_map_or}
-use Rattle.written_kernel.specs.Types.{Call}
-use Rattle.kernel_records.specs.Words.{is_served_by}
+use Rattle.spec_kernel.specs.Types.{Call}
+use Rattle.spec_records.specs.Words.{is_served_by}
 use Rattle.call_tree.specs.Words.{root_in, walk_up, caller_in as called_in}
-use Rattle.written_kernel.specs.Words.{StandsFor, State, caller_in, find_call, is_runnable, least_among, least_or, least_runnable, root, walk}
-use Rattle.written_kernel.proofs.Forget.{is_runnable-forget, root-forget}
-use Rattle.kernel_records.proofs.Lists.{numbered_past}
+use Rattle.spec_kernel.specs.Words.{StandsFor, State, caller_in, find_call, is_runnable, least_among, least_or, least_runnable, root, walk}
+use Rattle.spec_kernel.proofs.Forget.{is_runnable-forget, root-forget}
+use Rattle.spec_records.proofs.Lists.{numbered_past}
 
 pub runnable_stands : (kept m : State) (t : ℕ) → StandsFor kept m → is_runnable kept t ≡ is_runnable m t
 runnable_stands kept m t e = ap (λ k. is_runnable k t) e ∙ is_runnable-forget m t

@@ -2,9 +2,9 @@
 use Rattle.std.proofs.Common.{◌≡◌, ℕ, ◌+◌, ◌-◌, ◌<◌, ◌≤◌, ◌++◌, List, [], ◌∷◌, Option, None, Some, IfSome, drop, get_or, length, map, refl, sym, ap, ◌∙◌, arith}
 use Rattle.std.proofs.lemmas.List.{append_assoc, drop_more}
 use Rattle.dk_base.specs.ByNumber.{at_number}
-use Rattle.kernel_records.specs.Words.{Port}
-use Rattle.written_kernel.specs.Types.{Errno, Fd, Obj}
-use Rattle.written_kernel.specs.Words.{after_sending, after_sending_each, errors_of_sending, sending_error}
+use Rattle.spec_records.specs.Words.{Port}
+use Rattle.spec_kernel.specs.Types.{Errno, Fd, Obj}
+use Rattle.spec_kernel.specs.Words.{after_sending, after_sending_each, errors_of_sending, sending_error}
 use Rattle.kernel_store.specs.Words.{HasRoomForEvents, KeepsPools, KeepsRoomForEventsButOne, StoreValue}
 
 pub keeps_same : (a : StoreValue) → KeepsPools a a

@@ -3,16 +3,16 @@ use Rattle.std.proofs.Common.{◌≡◌, ℕ, suc, ◌+◌, ◌<◌, ◌≤◌, 
 use Rattle.std.specs.List.{AllByRecursion}
 use Rattle.std.proofs.lemmas.List.Sums.{count_by-le-length, sum_by-cons}
 use Rattle.dk_base.specs.ByNumber.{at_number}
-use Rattle.kernel_records.specs.declared.pool.Pool.TheVariants.{Common, Private}
-use Rattle.kernel_records.specs.Words.{AreNumbered, is_notice_door, is_pool, is_private, notice_doors, number_of_door, pool_in}
-use Rattle.kernel_records.proofs.Lists.{at_number-suc}
-use Rattle.written_kernel.specs.Types.{Door, Pool}
+use Rattle.spec_records.specs.declared.pool.Pool.TheVariants.{Common, Private}
+use Rattle.spec_records.specs.Words.{AreNumbered, is_notice_door, is_pool, is_private, notice_doors, number_of_door, pool_in}
+use Rattle.spec_records.proofs.Lists.{at_number-suc}
+use Rattle.spec_kernel.specs.Types.{Door, Pool}
 use Rattle.server_pool.specs.Words.{IsAscending}
-use Rattle.pool_agreement.proofs.Readers.{is_pool-self, same_number}
+use Rattle.law_pools.proofs.Readers.{is_pool-self, same_number}
 use Rattle.std.proofs.Math.ListN.{get_or}
 use Rattle.std.proofs.Math.Seq.{drop-cons}
 use Rattle.std.proofs.lemmas.List.Folds.{list_any_at}
-use Rattle.written_kernel.specs.Words.{State, pool_of}
+use Rattle.spec_kernel.specs.Words.{State, pool_of}
 use Rattle.kernel_store.specs.Words.{items_for, serves_any}
 
 none_of : (p : ℕ → Bool) (k : ℕ) (xs : List ℕ) → ((d : ℕ) → p d ≡ true → d ≡ k) → AllByRecursion (λ d. k < d) xs → count_by p xs ≡ 0

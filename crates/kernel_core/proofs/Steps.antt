@@ -2,26 +2,26 @@
 use Rattle.std.proofs.Common.{◌≡◌, ℕ, ◌+◌, ◌<◌, ◌≤◌, ◌&&◌, not, Bool, true, false, Some, if◌then◌else◌, is_none, length, List, [], ◌∷◌, Option, None, refl, Result, Ok, Err, IfOk, OnErr, OnOk, subst, sym, ap, ◌∙◌, arith}
 use Rattle.dk_base.specs.declared.number.Tid.{Tid}
 use Rattle.dk_base.specs.Words.{RoomValue}
-use Rattle.written_kernel.specs.Types.{Answer, Errno, Item, NoMemory, Request, Stepped}
+use Rattle.spec_kernel.specs.Types.{Answer, Errno, Item, NoMemory, Request, Stepped}
 use Rattle.kernel_core.specs.declared.event.Parts.{Parts}
 use Rattle.kernel_core.specs.declared.event.Taken.{Taken}
 use Rattle.kernel_core.specs.Woken.{IsReady, IsReadyToSettle}
 use Rattle.dk_base.specs.declared.object.Item.TheVariants as item
-use Rattle.kernel_records.specs.Words.{first_refusal, has_common_door, is_live_call, is_private}
-use Rattle.written_kernel.proofs.Failing.{doors-fail_returns}
-use Rattle.pool_agreement.specs.Words.{first_common_of, is_this}
-use Rattle.pool_agreement.proofs.Settling.{first_common, no_first_common}
-use Rattle.written_kernel.specs.Words.{IsStep, StandsFor, State, act, create, create_tests, enter, fail_returns, forget, give, give_one, go_on, has_first_common_door, no_process, process_of, settle, state_of, step, unless_refused, with_event_counted, with_new_process, with_processes, woken_threads}
+use Rattle.spec_records.specs.Words.{first_refusal, has_common_door, is_live_call, is_private}
+use Rattle.spec_kernel.proofs.Failing.{doors-fail_returns}
+use Rattle.law_pools.specs.Words.{first_common_of, is_this}
+use Rattle.law_pools.proofs.Settling.{first_common, no_first_common}
+use Rattle.spec_kernel.specs.Words.{IsStep, StandsFor, State, act, create, create_tests, enter, fail_returns, forget, give, give_one, go_on, has_first_common_door, no_process, process_of, settle, state_of, step, unless_refused, with_event_counted, with_new_process, with_processes, woken_threads}
 use Rattle.dk_base.specs.declared.answer.Answer.TheVariants as answer
 use Rattle.dk_base.specs.declared.request.Request.TheVariants as request
 use Rattle.kernel_core.specs.Entries.{made_first, may_make_first}
 use Rattle.kernel_core.specs.Kept.{HasNothingPast}
-use Rattle.answering_kernel.specs.Small.{IsSmall}
+use Rattle.spec_kernel.specs.Small.{IsSmall}
 use Rattle.kernel_core.specs.Within.{IsWithin}
-use Rattle.kernel_records.proofs.Lists.{same_length}
-use Rattle.written_kernel.proofs.Settling.{give-all}
-use Rattle.written_kernel.proofs.Steps.{act-keeps, process_identity}
-use Rattle.written_kernel.proofs.Forget.{IsStep-stands_for, forget-forget, settle-forget, woken_threads-forget}
+use Rattle.spec_records.proofs.Lists.{same_length}
+use Rattle.spec_kernel.proofs.Settling.{give-all}
+use Rattle.spec_kernel.proofs.Steps.{act-keeps, process_identity}
+use Rattle.spec_kernel.proofs.Forget.{IsStep-stands_for, forget-forget, settle-forget, woken_threads-forget}
 use Rattle.kernel_core.proofs.Live.{live_state, settle_past}
 use Rattle.kernel_core.proofs.Grows.{Grows, IsFitTurn, act-tidy, filter-small, grows_kept, settle-grows}
 

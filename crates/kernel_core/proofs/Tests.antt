@@ -4,9 +4,9 @@ use Rattle.std.specs.List.{list_any}
 use Rattle.std.proofs.lemmas.Bool.Decides.{nat_tests}
 use Rattle.dk_base.specs.declared.error.Errno.TheVariants.{E2BIG, EAGAIN, EINVAL}
 use Rattle.dk_base.specs.declared.limits.TheConstants.{DATA_MAX, PASS_MAX, QUEUE_MAX}
-use Rattle.written_kernel.specs.Types.{Errno, Fd, Pass}
-use Rattle.kernel_records.specs.Words.{Test, first_refusal, has_double_release, is_not_open, limit_tests, refused_where}
-use Rattle.written_kernel.specs.Words.{State, call_tests, calls_waiting, client_call, door_named, door_of, is_valid, object_at, pass_tests, pool_of, pool_tests, return_tests, table_of}
+use Rattle.spec_kernel.specs.Types.{Errno, Fd, Pass}
+use Rattle.spec_records.specs.Words.{Test, first_refusal, has_double_release, is_not_open, limit_tests, refused_where}
+use Rattle.spec_kernel.specs.Words.{State, call_tests, calls_waiting, client_call, door_named, door_of, is_valid, object_at, pass_tests, pool_of, pool_tests, return_tests, table_of}
 
 pub first_of : (xs ys : List Test) (e : Errno) → first_refusal xs ≡ Some e → first_refusal (xs ++ ys) ≡ Some e
 first_of [] ys e h = grind arith

@@ -1,10 +1,10 @@
 -- What a thread that enters a call is told, and what a caller is told that collects.
 use Rattle.std.proofs.Common.{◌≡◌, ℕ, true, List, Option, None, Some, cond, sym, ap, ap₂, ◌∙◌}
 use Rattle.dk_base.specs.declared.answer.Answer.TheVariants as answer
-use Rattle.kernel_records.specs.declared.record.CallStage.TheVariants as stage
-use Rattle.kernel_records.specs.Words.{cookie_of, entry_of, is_given_as, new_descriptors}
-use Rattle.written_kernel.specs.Types.{Call, CallStage, Fd}
-use Rattle.written_kernel.specs.Words.{State, accept_call, begin_call, door_of, fail_begin, find_call, has_room, objects_collected, objects_collected_in, table_of}
+use Rattle.spec_records.specs.declared.record.CallStage.TheVariants as stage
+use Rattle.spec_records.specs.Words.{cookie_of, entry_of, is_given_as, new_descriptors}
+use Rattle.spec_kernel.specs.Types.{Call, CallStage, Fd}
+use Rattle.spec_kernel.specs.Words.{State, accept_call, begin_call, door_of, fail_begin, find_call, has_room, objects_collected, objects_collected_in, table_of}
 use Rattle.call_tree.specs.Calls.{args_in}
 use Rattle.call_tree.specs.Words.{outcome_at, outcome_in}
 use Rattle.call_tree.specs.declared.parts.Args.{Args}

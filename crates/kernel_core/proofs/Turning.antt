@@ -6,18 +6,18 @@ use Rattle.std.proofs.lemmas.List.{map-append}
 use Rattle.std.specs.Option.{option_map}
 use Rattle.dk_base.specs.declared.limits.TheConstants.{THREADS_MAX}
 use Rattle.dk_base.specs.declared.number.Tid.{Tid}
-use Rattle.kernel_records.specs.declared.record.ThreadState.TheVariants as is
-use Rattle.kernel_records.specs.Words.{call_number, is_live, is_live_call, is_numbered, is_to_collect, is_to_collect_as, numbers_where, tid}
-use Rattle.kernel_records.proofs.DoorNumbers.{length-numbers_where, numbers_where-past, numbers_where-same}
-use Rattle.kernel_records.proofs.Lists.{numbered_past}
-use Rattle.kernel_records.proofs.NumberedLists.{find-slice_get}
-use Rattle.thread_set.specs.declared.set.ThreadSet.{ThreadSet}
-use Rattle.thread_set.specs.Sets.{IsFirst, has, members}
-use Rattle.written_kernel.specs.Types.{Call, CallStage, ThreadState}
-use Rattle.written_kernel.specs.Words.{State, can_go_on, forget, is_runnable, least_among, least_or, least_runnable, state_of, woken_among, woken_threads}
+use Rattle.spec_records.specs.declared.record.ThreadState.TheVariants as is
+use Rattle.spec_records.specs.Words.{call_number, is_live, is_live_call, is_numbered, is_to_collect, is_to_collect_as, numbers_where, tid}
+use Rattle.dk_base.proofs.NumbersWhere.{length-numbers_where, numbers_where-past, numbers_where-same}
+use Rattle.spec_records.proofs.Lists.{numbered_past}
+use Rattle.spec_records.proofs.NumberedLists.{find-slice_get}
+use Rattle.dk_base.specs.declared.thread_set.ThreadSet.{ThreadSet}
+use Rattle.dk_base.specs.ThreadSets.{IsFirst, has, members}
+use Rattle.spec_kernel.specs.Types.{Call, CallStage, ThreadState}
+use Rattle.spec_kernel.specs.Words.{State, can_go_on, forget, is_runnable, least_among, least_or, least_runnable, state_of, woken_among, woken_threads}
 use Rattle.call_tree.specs.Words.{is_ready_of}
-use Rattle.kernel_invariant.specs.Core.{caller_number, live_in}
-use Rattle.kernel_invariant.specs.Invariant.{IsConsistent}
+use Rattle.law_states.specs.Core.{caller_number, live_in}
+use Rattle.law_states.specs.Invariant.{IsConsistent}
 use Rattle.kernel_store.specs.Words.{can_turn, can_turn_at}
 use Rattle.kernel_core.specs.Woken.{AreTurns, HasTurns, turned_threads}
 use Rattle.kernel_core.proofs.Readers.{kept_of, least_found, none_runnable}

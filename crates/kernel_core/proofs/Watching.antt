@@ -1,12 +1,12 @@
 -- What an act does to doors, for the notices that follow it: those that are there stay.
 use Rattle.std.proofs.Common.{◌≡◌, ℕ, List, Option, Some, refl, sym, subst, ap, ◌∙◌}
 use Rattle.dk_base.specs.ByNumber.{at_number}
-use Rattle.written_kernel.specs.Types.{Door, Request}
-use Rattle.written_kernel.specs.Words.{State, StandsFor, act, door_of, step}
-use Rattle.written_kernel.proofs.Settling.{doors-settle}
-use Rattle.kernel_invariant.specs.Invariant.{Invariant}
-use Rattle.kernel_invariant.specs.Events.{DoorArrow, IsSameDoor, Keeps}
-use Rattle.kernel_invariant.specs.Events.DoorArrow.{none, kept, created}
+use Rattle.spec_kernel.specs.Types.{Door, Request}
+use Rattle.spec_kernel.specs.Words.{State, StandsFor, act, door_of, step}
+use Rattle.spec_kernel.proofs.Settling.{doors-settle}
+use Rattle.law_states.specs.Invariant.{Invariant}
+use Rattle.law_states.specs.Events.{DoorArrow, IsSameDoor, Keeps}
+use Rattle.law_states.specs.Events.DoorArrow.{none, kept, created}
 use Rattle.kernel_core.specs.Watched.{IsKeptDoor, KeepsDoors}
 
 -- the act of an event, as the kernel's invariant knows it

@@ -1,13 +1,13 @@
 -- What an event needs of the parts of a kernel, and what it has done once its act is done.
 use Rattle.std.specs.Prelude.{ℕ, ◌≡◌, ◌<◌, Option, false}
-use Rattle.act_changes.specs.Changed.{OnlyLiveHaveRows, UnbornHaveNoRows}
-use Rattle.act_changes.specs.Closed.{closed_rows}
+use Rattle.law_channels.specs.Changed.{OnlyLiveHaveRows, UnbornHaveNoRows}
+use Rattle.law_channels.specs.Closed.{closed_rows}
 use Rattle.dk_base.specs.declared.limits.TheConstants.{EVENTS_MAX}
-use Rattle.written_kernel.specs.Types.{Answer, Request}
-use Rattle.written_kernel.specs.Words.{StandsFor, State, act, forget, give, has_first_common_door, has_lost_door, state_of}
-use Rattle.kernel_invariant.specs.Coherent.{is_unfit}
-use Rattle.kernel_invariant.specs.Told.{AreTold}
-use Rattle.pool_agreement.specs.Words.{is_this}
+use Rattle.spec_kernel.specs.Types.{Answer, Request}
+use Rattle.spec_kernel.specs.Words.{StandsFor, State, act, forget, give, has_first_common_door, has_lost_door, state_of}
+use Rattle.law_states.specs.Coherent.{is_unfit}
+use Rattle.law_states.specs.Told.{AreTold}
+use Rattle.law_pools.specs.Words.{is_this}
 use Rattle.kernel_store.specs.Words.{AreHeld, ArePlaced, IsAtRest, KeepsForNotices, ReadiesAtMost, WaitAtValidDoors, closing_of, stored_state}
 use Rattle.kernel_core.specs.declared.event.Parts.{Parts}
 use Rattle.kernel_core.specs.declared.event.Taken.{Taken}

@@ -1,12 +1,12 @@
 -- An entry as the file of its subject does it, and what is known of it before it is done.
 use Rattle.std.specs.Prelude.{ℕ, ◌&&◌, Bool, true, false, if◌then◌else◌, not, Option, None, Some}
-use Rattle.written_kernel.specs.Types.{Answer, Pool, Request}
+use Rattle.spec_kernel.specs.Types.{Answer, Pool, Request}
 use Rattle.dk_base.specs.declared.answer.Answer.TheVariants as answer
 use Rattle.dk_base.specs.declared.request.Request.TheVariants as request
-use Rattle.kernel_records.specs.declared.pool.Pool.TheVariants.{Private}
-use Rattle.kernel_records.specs.Words.{first_refusal, has_common_door, is_private}
-use Rattle.written_kernel.specs.Words.{ActResult, State, Subject, door_at, effect_about, process_of, tests_about, unless_refused}
-use Rattle.pool_agreement.specs.Words.{pool_of_request}
+use Rattle.spec_records.specs.declared.pool.Pool.TheVariants.{Private}
+use Rattle.spec_records.specs.Words.{first_refusal, has_common_door, is_private}
+use Rattle.spec_kernel.specs.Words.{ActResult, State, Subject, door_at, effect_about, process_of, tests_about, unless_refused}
+use Rattle.law_pools.specs.Words.{pool_of_request}
 
 -- refused by the first of the tests of its subject that holds, or done
 abbrev pub entry_about : Subject → State → ℕ → ℕ → Request → ActResult

@@ -1,8 +1,8 @@
 -- What getting at a port needs, and sending to several: the room for what is found, and for what is sent.
 use Rattle.std.specs.Prelude.{ℕ, ◌≡◌, Bool, true, List, All}
-use Rattle.written_kernel.specs.Types.{Fd}
-use Rattle.written_kernel.specs.Words.{State, can_end_getting, port_at}
-use Rattle.kernel_invariant.specs.Coherent.{is_fit_wait}
+use Rattle.spec_kernel.specs.Types.{Fd}
+use Rattle.spec_kernel.specs.Words.{State, can_end_getting, port_at}
+use Rattle.law_states.specs.Coherent.{is_fit_wait}
 use Rattle.kernel_store.specs.Words.{HasRoomForEvents, IsRoomFor, StoreValue, stored_state}
 use Rattle.kernel_core.specs.declared.acts.Ending.{Ending}
 use Rattle.kernel_core.specs.declared.acts.Ending.TheVariants as ending

@@ -1,9 +1,9 @@
 -- What a kernel knows of a Fork before its act.
 use Rattle.std.specs.Prelude.{ℕ, ◌≡◌, None}
 use Rattle.dk_base.specs.declared.request.Request.TheVariants as request
-use Rattle.kernel_records.specs.Words.{first_refusal}
-use Rattle.written_kernel.specs.Types.{Request}
-use Rattle.written_kernel.specs.Words.{State, forking_tests, process_of}
+use Rattle.spec_records.specs.Words.{first_refusal}
+use Rattle.spec_kernel.specs.Types.{Request}
+use Rattle.spec_kernel.specs.Words.{State, forking_tests, process_of}
 use Rattle.kernel_store.specs.Words.{MayBegin}
 
 -- a child of which a Fork is not refused may begin with the descriptors of the thread's process

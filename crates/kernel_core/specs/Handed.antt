@@ -1,12 +1,12 @@
 -- How many objects an event hands over at most, and how many events of a port, for which the room is taken before it, and which end a wait
 -- has.
 use Rattle.std.specs.Prelude.{ℕ, false, List, [], Option, None, Some, length}
-use Rattle.written_kernel.specs.Types.{Call, Item, Obj, Queued, Request, ThreadState}
+use Rattle.spec_kernel.specs.Types.{Call, Item, Obj, Queued, Request, ThreadState}
 use Rattle.dk_base.specs.declared.object.Item.TheVariants as item
 use Rattle.dk_base.specs.declared.request.Request.TheVariants as request
-use Rattle.kernel_records.specs.declared.record.ThreadState.TheVariants as is
-use Rattle.kernel_records.specs.Words.{events_found, is_given_as, is_to_collect_as}
-use Rattle.written_kernel.specs.Words.{State, find_call, objects_collected_in, port}
+use Rattle.spec_records.specs.declared.record.ThreadState.TheVariants as is
+use Rattle.spec_records.specs.Words.{events_found, is_given_as, is_to_collect_as}
+use Rattle.spec_kernel.specs.Words.{State, find_call, objects_collected_in, port}
 use Rattle.kernel_core.specs.declared.acts.Ending.{Ending}
 use Rattle.kernel_core.specs.declared.acts.Ending.TheVariants as ending
 

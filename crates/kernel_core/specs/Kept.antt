@@ -1,10 +1,10 @@
 -- What a kernel keeps comes from a written state of which the invariant holds; before the first event it is an opening.
 use Rattle.std.specs.Prelude.{◌≡◌}
-use Rattle.written_kernel.specs.Words.{IsOpening, StandsFor, State}
+use Rattle.spec_kernel.specs.Words.{IsOpening, StandsFor, State}
 use Rattle.call_tree.specs.Words.{AreLive}
-use Rattle.pool_agreement.specs.Words.{AreKept}
-use Rattle.kernel_invariant.specs.Invariant.{Invariant}
-use Rattle.channel_invariant.specs.Channels.{AreChannels}
+use Rattle.law_pools.specs.Words.{AreKept}
+use Rattle.law_states.specs.Invariant.{Invariant}
+use Rattle.law_channels.specs.Channels.{AreChannels}
 
 pub record IsKept (kept : State) : Type 0 where
   pub written : State

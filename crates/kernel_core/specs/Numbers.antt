@@ -1,7 +1,7 @@
 -- What the numbers that the kernel hands out need to fit.
 use Rattle.std.specs.Prelude.{ℕ, ◌+◌, ◌<◌, ◌≤◌, ◌*◌, length}
-use Rattle.written_kernel.specs.Words.{State, port, port_at}
-use Rattle.written_kernel.specs.Types.{Fd}
+use Rattle.spec_kernel.specs.Words.{State, port, port_at}
+use Rattle.spec_kernel.specs.Types.{Fd}
 use Rattle.unref_notice.specs.declared.counts.TheConstants.{STEP_MAX}
 use Rattle.dk_base.specs.declared.limits.TheConstants.{EVENTS_MAX, USER_EVENTS_MAX}
 

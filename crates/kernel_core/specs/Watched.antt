@@ -2,10 +2,10 @@
 -- act it makes a notice of each door that takes notices and whose references have fallen to one. Only doors with more than one reference
 -- are watched for that.
 use Rattle.std.specs.Prelude.{ℕ, ◌≡◌, if◌then◌else◌, List, [], ◌∷◌, Option, Bool, Some, filter, length, nat_lt}
-use Rattle.written_kernel.specs.Types.{Door}
-use Rattle.kernel_records.specs.Words.{AreNumbered, make_notice, notice_doors}
-use Rattle.written_kernel.specs.Words.{State, door_of, falls_to_one, now, reference_count}
-use Rattle.kernel_invariant.specs.Events.{IsSameDoor}
+use Rattle.spec_kernel.specs.Types.{Door}
+use Rattle.spec_records.specs.Words.{AreNumbered, make_notice, notice_doors}
+use Rattle.spec_kernel.specs.Words.{State, door_of, falls_to_one, now, reference_count}
+use Rattle.law_states.specs.Events.{IsSameDoor}
 use Rattle.kernel_store.specs.Words.{ArePlaced, HasBegun, HasRoomForNotices, IsAgreed, KeepsForNotices, StoreValue, may_have_notice_in, stored_state}
 
 abbrev pub is_watched : State → ℕ → Bool

@@ -1,10 +1,10 @@
 -- What a kernel's numbers, bytes and objects in transit stay within.
 use Rattle.std.specs.Prelude.{◌≤◌, ◌*◌, length, List, [], ◌∷◌}
-use Rattle.written_kernel.specs.Types.{Call, CallStage}
-use Rattle.kernel_records.specs.declared.record.CallStage.TheVariants as stage
+use Rattle.spec_kernel.specs.Types.{Call, CallStage}
+use Rattle.spec_records.specs.declared.record.CallStage.TheVariants as stage
 use Rattle.dk_base.specs.declared.limits.TheConstants.{DATA_MAX, EVENTS_MAX, PASS_MAX}
 use Rattle.unref_notice.specs.declared.counts.TheConstants.{STEP_MAX}
-use Rattle.written_kernel.specs.Words.{State}
+use Rattle.spec_kernel.specs.Words.{State}
 
 abbrev pub IsSmallStage : CallStage → Type 0
 IsSmallStage (stage.Returned bytes objects) = (length bytes ≤ DATA_MAX) × (length objects ≤ PASS_MAX)

@@ -2,13 +2,13 @@
 use Rattle.std.specs.Prelude.{ℕ, ◌≡◌, ◌+◌, ◌≤◌, ◌&&◌, length, List, Option, map, not}
 use Rattle.dk_base.specs.declared.limits.TheConstants.{THREADS_MAX}
 use Rattle.dk_base.specs.declared.number.Tid.{Tid}
-use Rattle.kernel_records.specs.Words.{numbers_where, tid}
-use Rattle.thread_set.specs.declared.set.ThreadSet.{ThreadSet}
-use Rattle.thread_set.specs.Words.{has}
+use Rattle.spec_records.specs.Words.{numbers_where, tid}
+use Rattle.dk_base.specs.declared.thread_set.ThreadSet.{ThreadSet}
+use Rattle.dk_base.specs.Words.{has}
 use Rattle.kernel_core.specs.declared.event.Parts.{Parts}
 use Rattle.kernel_core.specs.declared.event.Taken.{Taken}
-use Rattle.written_kernel.specs.Types.{Request}
-use Rattle.written_kernel.specs.Words.{State, associations_in, forget, is_runnable, step, timers_in}
+use Rattle.spec_kernel.specs.Types.{Request}
+use Rattle.spec_kernel.specs.Words.{State, associations_in, forget, is_runnable, step, timers_in}
 use Rattle.kernel_store.specs.Words.{HasBegun, HasRoomForNotices, HasRoomToTell, IsAgreed, IsRoomFor, can_turn, stored_state}
 use Rattle.kernel_core.specs.Watched.{watched}
 

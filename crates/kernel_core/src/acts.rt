@@ -1,17 +1,17 @@
 //! The act of a turn: an entry, unless it is refused, or the end of a wait.
 ghost use Rattle.std.specs.Prelude.{◌≡◌, ◌&&◌, if◌then◌else◌, not, Some, None, false, length, true, IfOk, OnErr, OnOk};
 ghost use Rattle.std.specs.Option.{option_map};
-ghost use Rattle.kernel_records.specs.Words.{has_common_door, is_private};
-ghost use Rattle.kernel_invariant.specs.Coherent.{is_unfit};
-ghost use Rattle.kernel_invariant.specs.Events.{is_leaving};
+ghost use Rattle.spec_records.specs.Words.{has_common_door, is_private};
+ghost use Rattle.law_states.specs.Coherent.{is_unfit};
+ghost use Rattle.law_states.specs.Events.{is_leaving};
 ghost use Rattle.kernel_core.specs.Entries.{made_first, may_make_first, touched_by};
-ghost use Rattle.written_kernel.specs.Words.{IsFit, StandsFor, act, enter, is_runnable, is_running, process_of, state_of};
+ghost use Rattle.spec_kernel.specs.Words.{IsFit, StandsFor, act, enter, is_runnable, is_running, process_of, state_of};
 ghost use Rattle.kernel_core.specs.Finding.{HasRoomToFind};
 ghost use Rattle.kernel_core.specs.Forking.{MayFork};
 ghost use Rattle.kernel_core.specs.Handed.{count_passed, ending_of, events_at_end, objects_at_end};
 ghost use Rattle.kernel_core.specs.Kept.{HasNothingPast};
 ghost use Rattle.kernel_core.specs.Numbers.{HasNumbersLeft};
-ghost use Rattle.pool_agreement.specs.Words.{own_pool};
+ghost use Rattle.law_pools.specs.Words.{own_pool};
 ghost use Rattle.kernel_store.specs.Words.{AreHeld, CanAct, CanLeave, FillsNoPool, FillsOnePool, HasWholeStep, IsRoomFor, KeepsForNotices, ParksAgain, stored_state};
 
 use crate::descriptors::{self, door_named};
@@ -28,11 +28,11 @@ use dk_base::number::{Fd, Pid, Tid};
 use dk_base::object::{Item, Obj};
 use dk_base::request::Request;
 use dk_base::set::Attrs;
-use kernel_records::pool::Pool;
-use kernel_records::record::ThreadState;
+use dk_base::thread_set::ThreadSet;
 use kernel_store::store::Store;
+use spec_records::pool::Pool;
+use spec_records::record::ThreadState;
 use std::alloc::Global;
-use thread_set::set::ThreadSet;
 
 /// What is asked of an entry before its act.
 #[derive(Clone, Copy)]

@@ -1,12 +1,12 @@
 //! The kernel answers as seats ask it.
 
 use crate::kernel::Kernel;
-use answering_kernel::asked::Answers;
 use dk_base::error::NoMemory;
 use dk_base::event::Stepped;
 use dk_base::number::Tid;
 use dk_base::request::Request;
-use kernel_records::record::ThreadState;
+use spec_kernel::answering::Answers;
+use spec_records::record::ThreadState;
 
 impl Answers for Kernel {
     ghost keeps = { λ m. m };

@@ -1,8 +1,8 @@
 //! The acts of associations. The memory that one needs is taken before its first change.
 ghost use Rattle.std.specs.Prelude.{◌≡◌, ◌<◌, ◌≤◌, IfOk, OnErr, OnOk, length};
 ghost use Rattle.dk_base.specs.declared.limits.TheConstants.{EVENTS_MAX};
-ghost use Rattle.kernel_records.specs.Words.{first_refusal};
-ghost use Rattle.written_kernel.specs.Words.{Subject, associate, associating_tests, dissociate, dissociating_tests, key_at, port_at, watched, object_at};
+ghost use Rattle.spec_records.specs.Words.{first_refusal};
+ghost use Rattle.spec_kernel.specs.Words.{Subject, associate, associating_tests, dissociate, dissociating_tests, key_at, port_at, watched, object_at};
 ghost use Rattle.kernel_core.specs.Entries.{entry_about};
 ghost use Rattle.kernel_core.specs.Numbers.{HasNumbersLeft};
 ghost use Rattle.kernel_store.specs.Words.{KeepsPools, stored_state};
@@ -14,8 +14,8 @@ use dk_base::number::{Fd, Pid, Tid};
 use dk_base::object::Obj;
 use dk_base::request::Request;
 use dk_base::set::PollSet;
-use kernel_records::association::AssocKey;
 use kernel_store::store::Store;
+use spec_records::association::AssocKey;
 use std::alloc::Global;
 
 /// A port and a descriptor of a process.

@@ -1,7 +1,7 @@
 //! The acts of bindings.
 ghost use Rattle.std.specs.Prelude.{◌≡◌, None, true};
-ghost use Rattle.kernel_records.specs.Words.{first_refusal};
-ghost use Rattle.written_kernel.specs.Words.{Subject, bind, binding_tests, bound_tests, information_of_bound, is_running, queried_tests, unbind};
+ghost use Rattle.spec_records.specs.Words.{first_refusal};
+ghost use Rattle.spec_kernel.specs.Words.{Subject, bind, binding_tests, bound_tests, information_of_bound, is_running, queried_tests, unbind};
 ghost use Rattle.kernel_core.specs.Entries.{entry_about};
 ghost use Rattle.kernel_store.specs.Words.{FillsNoPool, stored_state};
 
@@ -11,8 +11,8 @@ use dk_base::answer::Answer;
 use dk_base::error::Errno;
 use dk_base::number::{Fd, Pid, Tid};
 use dk_base::request::Request;
-use kernel_records::pool::LOST_DOOR;
 use kernel_store::store::Store;
+use spec_records::pool::LOST_DOOR;
 
 /// door_bind(3C): EBADF for no door or an invalid one, EINVAL for one that is not private or is another process's.
 pub fn bind_refusal(store: &Store, p: Pid, fd: Fd) -> Option<Errno>

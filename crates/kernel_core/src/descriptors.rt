@@ -1,8 +1,8 @@
 //! The acts of descriptors and names. What needs a free or an open descriptor, or a free path, has the condition that it is
 //! not refused.
 ghost use Rattle.std.specs.Prelude.{◌≡◌, ◌∷◌, [], None, false, is_none, true};
-ghost use Rattle.kernel_records.specs.Words.{first_refusal, lowest_free};
-ghost use Rattle.written_kernel.specs.Words.{Subject, attach, attach_tests, await, close, close_tests, detach, detach_tests, door_named, dup, dup_tests, end_await, insert_object, is_running, object_at, open_path, open_tests, state_of, table_of};
+ghost use Rattle.spec_records.specs.Words.{first_refusal, lowest_free};
+ghost use Rattle.spec_kernel.specs.Words.{Subject, attach, attach_tests, await, close, close_tests, detach, detach_tests, door_named, dup, dup_tests, end_await, insert_object, is_running, object_at, open_path, open_tests, state_of, table_of};
 ghost use Rattle.kernel_core.specs.Entries.{entry_about};
 ghost use Rattle.kernel_store.specs.Words.{CanHold, HasRoomForReferences, HasRoomToAttach, IsActive, KeepsPools, stored_state};
 
@@ -11,8 +11,8 @@ use dk_base::error::Errno;
 use dk_base::number::{Fd, PathId, Pid, Tid};
 use dk_base::object::Obj;
 use dk_base::request::Request;
-use kernel_records::record::ThreadState;
 use kernel_store::store::Store;
+use spec_records::record::ThreadState;
 
 /// The number of the door that a descriptor names, 0 for none.
 pub fn door_named(store: &Store, p: Pid, fd: Fd) -> u32

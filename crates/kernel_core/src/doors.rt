@@ -1,14 +1,14 @@
 //! The acts of doors, of calls of them, and of their invocations.
 ghost use Rattle.std.specs.Prelude.{◌≡◌, ◌++◌, None, Option, Some, false, length, nat_lt, true};
 ghost use Rattle.dk_base.specs.declared.object.Item.TheVariants as item;
-ghost use Rattle.kernel_records.specs.declared.record.ThreadState.TheVariants as is;
-ghost use Rattle.kernel_records.specs.Words.{cookie_of, entry_of, first_refusal, is_given_as, is_given_notice_as, limit_tests, no_cancel_of};
-ghost use Rattle.written_kernel.specs.Types.{Call};
-ghost use Rattle.written_kernel.specs.Words.{StandsFor, Subject, accept, accept_call, accept_notice, call, call_tests, collect, collect_answer_in, create, create_tests, door_named, door_of, find_call, find_notice, has_answer, has_room, is_running, object_at, pass_tests, pool_of, pool_tests, process_of, results_answer, return, return_tests, state_of, tables_after_collect};
+ghost use Rattle.spec_records.specs.declared.record.ThreadState.TheVariants as is;
+ghost use Rattle.spec_records.specs.Words.{cookie_of, entry_of, first_refusal, is_given_as, is_given_notice_as, limit_tests, no_cancel_of};
+ghost use Rattle.spec_kernel.specs.Types.{Call};
+ghost use Rattle.spec_kernel.specs.Words.{StandsFor, Subject, accept, accept_call, accept_notice, call, call_tests, collect, collect_answer_in, create, create_tests, door_named, door_of, find_call, find_notice, has_answer, has_room, is_running, object_at, pass_tests, pool_of, pool_tests, process_of, results_answer, return, return_tests, state_of, tables_after_collect};
 ghost use Rattle.kernel_core.specs.Handed.{count_passed, objects_at_end, objects_given, objects_to_collect, objects_with};
 ghost use Rattle.kernel_core.specs.Kept.{HasNothingPast};
 ghost use Rattle.kernel_core.specs.Numbers.{HasNumbersLeft};
-ghost use Rattle.pool_agreement.specs.Words.{own_pool, pool_of_request};
+ghost use Rattle.law_pools.specs.Words.{own_pool, pool_of_request};
 ghost use Rattle.call_tree.specs.Words.{outcome_in};
 ghost use Rattle.kernel_core.specs.Entries.{entry_about};
 ghost use Rattle.kernel_store.specs.Words.{AllIsGivenOut, AreHeld, ArePlaced, CanAct, CanHold, FillsOnePool, HasRoomForDoor, HasRoomForReferences, HasWholeStep, IsRoomFor, KeepsForNotices, KeepsPools, NothingAfter, results_in, stored_state};
@@ -26,8 +26,8 @@ use dk_base::object::{Item, Obj};
 use dk_base::request::Request;
 use dk_base::set::Attrs;
 use door_object::doors::Doors;
-use kernel_records::record::{Call, CallStage};
 use kernel_store::store::Store;
+use spec_records::record::{Call, CallStage};
 
 /// door_create(3C): EINVAL for attributes that only door_info(3C) tells, EMFILE.
 pub fn create_refusal(store: &Store, p: Pid, attrs: Attrs) -> Option<Errno>

@@ -3,10 +3,10 @@ ghost use Rattle.std.specs.Prelude.{◌≡◌, ℕ, ◌+◌, ◌<◌, ◌≤◌,
 ghost use Rattle.std.specs.Option.{option_map};
 ghost use Rattle.dk_base.specs.declared.answer.Answer.TheVariants.{Data};
 ghost use Rattle.dk_base.specs.declared.limits.TheConstants.{EVENTS_MAX};
-ghost use Rattle.written_kernel.specs.Words.{IsFit, IsStep, State, act, has_lost_door, is_runnable, is_running, step, with_event_counted};
-ghost use Rattle.kernel_invariant.specs.Events.{is_leaving};
+ghost use Rattle.spec_kernel.specs.Words.{IsFit, IsStep, State, act, has_lost_door, is_runnable, is_running, step, with_event_counted};
+ghost use Rattle.law_states.specs.Events.{is_leaving};
 ghost use Rattle.kernel_store.specs.Words.{ArePlaced, CanSettle, HasRoom, HasWholeStep, IsAtRest, stored_state};
-ghost use Rattle.written_kernel.specs.Types.{Request};
+ghost use Rattle.spec_kernel.specs.Types.{Request};
 ghost use Rattle.unref_notice.specs.declared.counts.TheConstants.{STEP_MAX};
 ghost use Rattle.kernel_core.specs.Acted.{CanNoticeAfter, CanStep, HasActed, IsBetweenEvents};
 ghost use Rattle.kernel_core.specs.declared.event.Parts.{Parts};
@@ -27,12 +27,12 @@ use dk_base::event::Stepped;
 use dk_base::list::{Room, TidList};
 use dk_base::number::{Fd, Pid, Tid};
 use dk_base::request::Request;
-use kernel_records::pool::Pool;
+use dk_base::thread_set::ThreadSet;
 use kernel_store::store::Store;
 use kernel_store::told::{ClosedRows, TellingRooms};
+use spec_records::pool::Pool;
 use std::alloc::Global;
 use std::mem;
-use thread_set::set::ThreadSet;
 
 /// A kernel's store, and the rooms of the lists that each event makes anew.
 #[derive(Drop)]

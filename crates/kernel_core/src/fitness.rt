@@ -1,7 +1,7 @@
 //! Which requests are fit.
 ghost use Rattle.std.specs.Prelude.{◌≡◌, ◌↔◌, Some, true};
-ghost use Rattle.kernel_records.specs.Words.{pid};
-ghost use Rattle.written_kernel.specs.Words.{IsFit, parent_of, process_of};
+ghost use Rattle.spec_records.specs.Words.{pid};
+ghost use Rattle.spec_kernel.specs.Words.{IsFit, parent_of, process_of};
 ghost use Rattle.kernel_store.specs.Words.{stored_state};
 
 use dk_base::limits::{ADVANCE_MAX, ANSWER_ITEMS_MAX, CLOCK_MAX, DATA_MAX, DELAY_MAX};

@@ -1,8 +1,8 @@
 //! The acts that tell of a door and of a client, and that change a door's parameters. What changes something has the condition
 //! that it is not refused.
 ghost use Rattle.std.specs.Prelude.{◌≡◌, None};
-ghost use Rattle.kernel_records.specs.Words.{first_refusal};
-ghost use Rattle.written_kernel.specs.Words.{Subject, credentials, credentials_tests, door_tests, information, information_of, parameter, set_parameter, set_parameter_tests};
+ghost use Rattle.spec_records.specs.Words.{first_refusal};
+ghost use Rattle.spec_kernel.specs.Words.{Subject, credentials, credentials_tests, door_tests, information, information_of, parameter, set_parameter, set_parameter_tests};
 ghost use Rattle.kernel_core.specs.Entries.{entry_about};
 ghost use Rattle.kernel_store.specs.Words.{KeepsPools, stored_state};
 

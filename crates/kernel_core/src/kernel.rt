@@ -4,13 +4,13 @@ ghost use Rattle.std.specs.Option.{option_map};
 ghost use Rattle.std.specs.List.{AllByRecursion, list_any};
 ghost use Rattle.dk_base.specs.declared.answer.Answer.TheVariants.{Failure};
 ghost use Rattle.dk_base.specs.declared.error.ProcFault.TheVariants.{Full};
-ghost use Rattle.written_kernel.specs.Types.{Errno};
+ghost use Rattle.spec_kernel.specs.Types.{Errno};
 ghost use Rattle.dk_base.specs.declared.limits.TheConstants.{ADVANCE_MAX, DESCRIPTORS_MAX, PROCESSES_MAX, THREADS_MAX, EVENTS_MAX};
-ghost use Rattle.written_kernel.specs.Words.{IsFit, IsOpening, IsStep, MayGoOn, StandsFor, State, is_runnable, is_running, is_thread_of, least_runnable, opening, process_of, refusal_of, root, state_of, step, table_of, with_child, with_event_counted, with_new_thread, with_processes};
+ghost use Rattle.spec_kernel.specs.Words.{IsFit, IsOpening, IsStep, MayGoOn, StandsFor, State, is_runnable, is_running, is_thread_of, least_runnable, opening, process_of, refusal_of, root, state_of, step, table_of, with_child, with_event_counted, with_new_thread, with_processes};
 ghost use Rattle.kernel_core.specs.Entries.{is_cache_line};
 ghost use Rattle.kernel_core.specs.Kept.{IsKept};
 ghost use Rattle.kernel_store.specs.Words.{IsAtRest, stored_state};
-ghost use Rattle.answering_kernel.specs.Small.{IsSmall};
+ghost use Rattle.spec_kernel.specs.Small.{IsSmall};
 ghost use Rattle.kernel_core.specs.Within.{IsWithin};
 ghost use Rattle.kernel_core.specs.Acted.{IsBetweenEvents};
 
@@ -23,9 +23,9 @@ use dk_base::limits::THREADS_MAX;
 use dk_base::list::{IdList, Room};
 use dk_base::number::{Pid, Tid};
 use dk_base::request::Request;
-use kernel_records::record::ThreadState;
 use kernel_store::store::Store;
 use kernel_store::told::TellingRooms;
+use spec_records::record::ThreadState;
 use std::alloc::Global;
 use std::marker::Model;
 

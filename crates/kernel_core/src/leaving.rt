@@ -2,10 +2,10 @@
 //! stands in the store. Each act tells which threads park again by it, since their callers left.
 ghost use Rattle.std.specs.Prelude.{◌≡◌, None, false, is_some, true, IfOk, OnErr, OnOk};
 ghost use Rattle.dk_base.specs.ByNumber.{at_number};
-ghost use Rattle.kernel_records.specs.Words.{first_refusal};
-ghost use Rattle.written_kernel.specs.Words.{StandsFor, Subject, exit, fork, forking_tests, interrupt, kill, leave_process, process_of, revoke, revoking_tests, state_of, test_cancel, wake};
+ghost use Rattle.spec_records.specs.Words.{first_refusal};
+ghost use Rattle.spec_kernel.specs.Words.{StandsFor, Subject, exit, fork, forking_tests, interrupt, kill, leave_process, process_of, revoke, revoking_tests, state_of, test_cancel, wake};
 ghost use Rattle.kernel_core.specs.Kept.{HasNothingPast};
-ghost use Rattle.kernel_invariant.specs.Events.{is_leaving};
+ghost use Rattle.law_states.specs.Events.{is_leaving};
 ghost use Rattle.kernel_core.specs.Entries.{entry_about};
 ghost use Rattle.kernel_core.specs.Forking.{MayFork};
 ghost use Rattle.kernel_store.specs.Words.{CanLeave, FillsNoPool, IsActive, KeepsForNotices, KeepsPools, MayBegin, NothingAfter, ParksAgain, stored_state};
@@ -15,11 +15,11 @@ use dk_base::answer::Answer;
 use dk_base::error::{Errno, NoMemory};
 use dk_base::number::{Fd, Pid, Tid};
 use dk_base::request::Request;
-use kernel_records::leaving::Leaver;
-use kernel_records::record::ThreadState;
+use dk_base::thread_set::ThreadSet;
 use kernel_store::store::Store;
+use spec_records::leaving::Leaver;
+use spec_records::record::ThreadState;
 use std::alloc::Global;
-use thread_set::set::ThreadSet;
 
 /// A thread is interrupted: its call ends with EINTR, or its wait for the events of a port. Any other thread goes on.
 pub fn interrupt(

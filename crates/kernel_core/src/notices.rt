@@ -2,19 +2,19 @@
 //! of each door that is due, and then what follows an act goes on.
 ghost use Rattle.std.specs.Prelude.{◌≡◌, ◌≤◌, ℕ, ◌∷◌, [], List, length, true};
 ghost use Rattle.std.specs.Option.{option_map};
-ghost use Rattle.written_kernel.specs.Types.{Pool};
-ghost use Rattle.written_kernel.specs.Words.{State, give, has_first_common_door, make_notices, now, pool_of, settle_pools};
-ghost use Rattle.pool_agreement.specs.Words.{is_this};
-ghost use Rattle.thread_set.specs.declared.set.ThreadSet.{ThreadSet};
+ghost use Rattle.spec_kernel.specs.Types.{Pool};
+ghost use Rattle.spec_kernel.specs.Words.{State, give, has_first_common_door, make_notices, now, pool_of, settle_pools};
+ghost use Rattle.law_pools.specs.Words.{is_this};
+ghost use Rattle.dk_base.specs.declared.thread_set.ThreadSet.{ThreadSet};
 ghost use Rattle.kernel_store.specs.Words.{CanMake, CanSettle, IsAtRest, IsInEvent, NothingAfter, StoreValue, serves_any, stored_state};
 ghost use Rattle.unref_notice.specs.declared.counts.TheConstants.{STEP_MAX};
 ghost use Rattle.kernel_core.specs.Watched.{BeganIn, HadRoomForNotices, fallen as fallen_in, make_of, watched};
 
 use dk_base::list::Room;
 use dk_base::number::Pid;
-use kernel_records::pool::Pool;
+use dk_base::thread_set::ThreadSet;
 use kernel_store::store::Store;
-use thread_set::set::ThreadSet;
+use spec_records::pool::Pool;
 
 /// A notice is made of a door where it may have one.
 fn make_one(store: &mut Store, d: u32)

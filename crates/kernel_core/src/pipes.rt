@@ -1,8 +1,8 @@
 //! The acts of pipes. The memory that one needs is taken before its first change.
 ghost use Rattle.std.specs.Prelude.{◌≡◌, ◌<◌, None, IfOk, OnErr, OnOk, length};
 ghost use Rattle.dk_base.specs.declared.limits.TheConstants.{EVENTS_MAX};
-ghost use Rattle.kernel_records.specs.Words.{first_refusal};
-ghost use Rattle.written_kernel.specs.Words.{Subject, object_at, pipe, pipe_at, pipe_tests, read, reading_tests, write, writing_tests};
+ghost use Rattle.spec_records.specs.Words.{first_refusal};
+ghost use Rattle.spec_kernel.specs.Words.{Subject, object_at, pipe, pipe_at, pipe_tests, read, reading_tests, write, writing_tests};
 ghost use Rattle.kernel_core.specs.Entries.{entry_about};
 ghost use Rattle.kernel_store.specs.Words.{HasRoomForReferences, KeepsPools, stored_state};
 

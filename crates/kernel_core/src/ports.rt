@@ -3,8 +3,8 @@ ghost use Rattle.std.specs.Prelude.{◌≡◌, ◌++◌, ◌<◌, List, None, So
 ghost use Rattle.dk_base.specs.declared.answer.Answer.TheVariants as answer;
 ghost use Rattle.dk_base.specs.declared.limits.TheConstants.{EVENTS_MAX};
 ghost use Rattle.dk_base.specs.declared.object.Obj.TheVariants as obj;
-ghost use Rattle.kernel_records.specs.Words.{Test, events_found, first_refusal, is_ready_for};
-ghost use Rattle.written_kernel.specs.Words.{Subject, after_sending, alert, alerting_tests, create_port, create_port_tests, end_getting, get, get_many, getting_many_tests, getting_tests, is_running, object_at, port, port_at, port_tests, retrieve, send, send_many, sending_error, sending_tests, state_of, tell_queued, wait_for, with_ports};
+ghost use Rattle.spec_records.specs.Words.{Test, events_found, first_refusal, is_ready_for};
+ghost use Rattle.spec_kernel.specs.Words.{Subject, after_sending, alert, alerting_tests, create_port, create_port_tests, end_getting, get, get_many, getting_many_tests, getting_tests, is_running, object_at, port, port_at, port_tests, retrieve, send, send_many, sending_error, sending_tests, state_of, tell_queued, wait_for, with_ports};
 ghost use Rattle.kernel_core.specs.Entries.{entry_about};
 ghost use Rattle.kernel_core.specs.Finding.{CanEndGetting, CanSendEach, HasRoomToFind};
 ghost use Rattle.kernel_core.specs.Handed.{events_at_end};
@@ -18,8 +18,8 @@ use dk_base::list::{ErrList, Room};
 use dk_base::number::{Fd, Pid, Tid};
 use dk_base::object::{EventRec, Obj};
 use dk_base::request::{AlertMode, Request};
-use kernel_records::record::ThreadState;
 use kernel_store::store::Store;
+use spec_records::record::ThreadState;
 use std::alloc::Global;
 
 /// Room for what a get finds: the events as they are retrieved, and the numbers of the associations that queued them.

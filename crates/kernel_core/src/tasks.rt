@@ -2,7 +2,7 @@
 //! the kernel has the cache.
 ghost use Rattle.std.specs.Prelude.{◌≡◌, [], true};
 ghost use Rattle.dk_base.specs.declared.answer.Answer.TheVariants.{Data};
-ghost use Rattle.written_kernel.specs.Words.{Subject, end_work, is_running, state_of};
+ghost use Rattle.spec_kernel.specs.Words.{Subject, end_work, is_running, state_of};
 ghost use Rattle.kernel_core.specs.Entries.{entry_about, is_cache_line};
 ghost use Rattle.kernel_store.specs.Words.{IsActive, KeepsPools, stored_state};
 
@@ -10,8 +10,8 @@ use dk_base::answer::Answer;
 use dk_base::list::Bytes;
 use dk_base::number::{Pid, Tid};
 use dk_base::request::Request;
-use kernel_records::record::ThreadState;
 use kernel_store::store::Store;
+use spec_records::record::ThreadState;
 use std::alloc::Global;
 
 /// The end of a task. Who runs the thread computes its bytes.

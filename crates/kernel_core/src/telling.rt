@@ -1,13 +1,13 @@
 //! What an entry closes, and of which pipe it readies an end, as its request says before its act.
 ghost use Rattle.std.specs.Prelude.{◌≡◌, Some, IfOk, if◌then◌else◌, true};
 ghost use Rattle.dk_base.specs.declared.object.Obj.{Obj};
-ghost use Rattle.act_changes.specs.Changed.{readied_by};
-ghost use Rattle.act_changes.specs.Closed.{Closing, closed_by, released};
-ghost use Rattle.act_changes.specs.Ends.{is_end};
+ghost use Rattle.law_channels.specs.Changed.{readied_by};
+ghost use Rattle.law_channels.specs.Closed.{Closing, closed_by, released};
+ghost use Rattle.law_channels.specs.Ends.{is_end};
 ghost use Rattle.dk_base.specs.Words.{RoomValue};
 ghost use Rattle.kernel_store.specs.Words.{closing_of, is_of_pipe, stored_state};
 ghost use Rattle.kernel_store.specs.declared.told.ClosedRows.TheVariants as list_of;
-ghost use Rattle.written_kernel.specs.Words.{object_at};
+ghost use Rattle.spec_kernel.specs.Words.{object_at};
 
 use crate::pipes::pipe_at;
 use dk_base::error::NoMemory;

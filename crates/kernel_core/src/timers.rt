@@ -1,8 +1,8 @@
 //! The acts of timers and of the clock that they are on. The memory that one needs is taken before its first change.
 ghost use Rattle.std.specs.Prelude.{◌≡◌, ◌≤◌, ◌<◌, None, IfOk, OnErr, OnOk, length};
 ghost use Rattle.dk_base.specs.declared.limits.TheConstants.{ADVANCE_MAX, CLOCK_MAX, DELAY_MAX, EVENTS_MAX};
-ghost use Rattle.kernel_records.specs.Words.{first_refusal};
-ghost use Rattle.written_kernel.specs.Words.{IsFit, Subject, advance, create_timer, creating_timer_tests, delete_timer, port_at, set_timer};
+ghost use Rattle.spec_records.specs.Words.{first_refusal};
+ghost use Rattle.spec_kernel.specs.Words.{IsFit, Subject, advance, create_timer, creating_timer_tests, delete_timer, port_at, set_timer};
 ghost use Rattle.kernel_core.specs.Entries.{entry_about};
 ghost use Rattle.kernel_core.specs.Numbers.{HasNumbersLeft};
 ghost use Rattle.kernel_store.specs.Words.{KeepsPools, stored_state};

@@ -1,11 +1,11 @@
 //! Which thread runs, and at which thread a walk along the calls ends.
 ghost use Rattle.std.specs.Prelude.{◌≡◌};
-ghost use Rattle.written_kernel.specs.Words.{is_running_state, root};
+ghost use Rattle.spec_kernel.specs.Words.{is_running_state, root};
 ghost use Rattle.kernel_store.specs.Words.{stored_state};
 
 use dk_base::number::Tid;
-use kernel_records::record::ThreadState;
 use kernel_store::store::Store;
+use spec_records::record::ThreadState;
 
 pub fn is_running_state(state: &ThreadState) -> bool
     ensures { result ≡ is_running_state state.now }

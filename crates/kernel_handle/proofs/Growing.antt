@@ -2,11 +2,11 @@
 use Rattle.std.proofs.Common.{◌≡◌, ◌<◌, ◌≤◌, ℕ, List, [], ◌∷◌, ◌++◌, Option, None, Some, length, refl, sym, subst, ◌∙◌, arith}
 use Rattle.std.proofs.lemmas.List.{length-map}
 use Rattle.dk_base.specs.declared.limits.TheConstants.{EVENTS_MAX}
-use Rattle.written_kernel.specs.Types.{Request}
-use Rattle.written_kernel.specs.Words.{IsOpening, MayTurn, StandsFor, State, state_after, state_after_turn, step}
-use Rattle.written_kernel.proofs.Opening.{forget-opening, opened}
-use Rattle.written_kernel.proofs.Runs.{events-state_after}
-use Rattle.written_kernel.proofs.Steps.{events-step}
+use Rattle.spec_kernel.specs.Types.{Request}
+use Rattle.spec_kernel.specs.Words.{IsOpening, MayTurn, StandsFor, State, state_after, state_after_turn, step}
+use Rattle.spec_kernel.proofs.Opening.{forget-opening, opened}
+use Rattle.spec_kernel.proofs.Runs.{events-state_after}
+use Rattle.spec_kernel.proofs.Steps.{events-step}
 use Rattle.spec_histories.specs.Histories.{Entry, Follows, History, IsHistory, IsLegal, IsRecord, begun, end, grown, next, turn_of, turns_of}
 
 state-grown : (m : State) (es : List Entry) (e : Entry) → state_after m (turns_of (es ++ e ∷ [])) ≡ state_after_turn (state_after m (turns_of es)) e.turn

@@ -3,12 +3,12 @@ use Rattle.std.proofs.Common.{◌≡◌, ◌≤◌, ◌<◌, ℕ, ◌+◌, List,
 use Rattle.std.proofs.lemmas.List.{length-map, length-replicate, take-append-drop}
 use Rattle.std.proofs.lemmas.Option.{slice_get-get_or}
 use Rattle.dk_base.specs.ByNumber.{at_number}
-use Rattle.kernel_records.specs.Words.{empty_table, table_in}
-use Rattle.kernel_records.proofs.Lists.{at_number-map, at_number-suc, numbered_front, numbered_within}
-use Rattle.written_kernel.specs.Types.{Pid}
-use Rattle.written_kernel.specs.Opening.{no_process, with_new_process, with_processes}
-use Rattle.written_kernel.specs.Words.{State, opening, table_of, with_child, with_new_thread}
-use Rattle.written_kernel.proofs.Opening.{length-with_child, opening_events, opening_processes, opening_threads, threads-make_child}
+use Rattle.spec_records.specs.Words.{empty_table, table_in}
+use Rattle.spec_records.proofs.Lists.{at_number-map, at_number-suc, numbered_front, numbered_within}
+use Rattle.spec_kernel.specs.Types.{Pid}
+use Rattle.spec_kernel.specs.Opening.{no_process, with_new_process, with_processes}
+use Rattle.spec_kernel.specs.Words.{State, opening, table_of, with_child, with_new_thread}
+use Rattle.spec_kernel.proofs.Opening.{length-with_child, opening_events, opening_processes, opening_threads, threads-make_child}
 use Rattle.spec_histories.specs.declared.opening.OpeningProcess.{OpeningProcess}
 use Rattle.spec_histories.specs.declared.opening.OpeningThread.{OpeningThread}
 use Rattle.spec_histories.specs.Openings.{limit_of, with_children, with_parent, with_threads}

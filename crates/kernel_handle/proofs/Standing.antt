@@ -2,9 +2,9 @@
 use Rattle.std.proofs.Common.{◌≡◌, ℕ, ◌<◌, Option, None, Some, true, false, sym, subst, ◌∙◌}
 use Rattle.dk_base.specs.declared.limits.TheConstants.{EVENTS_MAX}
 use Rattle.dk_base.specs.declared.request.Request.TheVariants as request
-use Rattle.written_kernel.specs.Types.{Request}
-use Rattle.written_kernel.specs.Words.{IsFit, MayTurn, StandsFor, State, forget, is_runnable, is_running}
-use Rattle.written_kernel.proofs.Forget.{is_runnable-forget}
+use Rattle.spec_kernel.specs.Types.{Request}
+use Rattle.spec_kernel.specs.Words.{IsFit, MayTurn, StandsFor, State, forget, is_runnable, is_running}
+use Rattle.spec_kernel.proofs.Forget.{is_runnable-forget}
 
 fit-forget : (m : State) (t : ℕ) (r : Request) → IsFit (forget m) t r → IsFit m t r
 fit-forget m t (request.Interrupt thread) f = f

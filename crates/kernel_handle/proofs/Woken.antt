@@ -1,11 +1,11 @@
 -- A turn wakes no more threads than there are.
 use Rattle.std.proofs.Common.{◌≤◌, ◌&&◌, ◌++◌, ℕ, zero, suc, List, [], ◌∷◌, Bool, true, false, not, if◌then◌else◌, Option, length, arith, length-append}
 use Rattle.dk_base.specs.declared.limits.TheConstants.{THREADS_MAX}
-use Rattle.kernel_records.specs.Words.{tid}
-use Rattle.written_kernel.specs.Types.{Request, Tid}
-use Rattle.written_kernel.specs.Step.{step}
-use Rattle.written_kernel.specs.Words.{State, is_runnable, woken_among}
-use Rattle.written_kernel.proofs.Steps.{threads-step}
+use Rattle.spec_records.specs.Words.{tid}
+use Rattle.spec_kernel.specs.Types.{Request, Tid}
+use Rattle.spec_kernel.specs.Step.{step}
+use Rattle.spec_kernel.specs.Words.{State, is_runnable, woken_among}
+use Rattle.spec_kernel.proofs.Steps.{threads-step}
 
 one-more : (ts : List Tid) (t n : ℕ) (woken : Bool) → length ts ≤ n → length (ts ++ (if woken then tid t ∷ [] else [])) ≤ suc n
 one-more ts t n true few = omega (arith, length-append ts (tid t ∷ []))

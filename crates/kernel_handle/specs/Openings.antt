@@ -3,7 +3,7 @@ use Rattle.std.specs.Prelude.{ℕ, ◌≡◌, ◌<◌, ◌≤◌, List, Some, le
 use Rattle.std.specs.Option.{option_map}
 use Rattle.dk_base.specs.ByNumber.{at_number}
 use Rattle.dk_base.specs.declared.limits.TheConstants.{DESCRIPTORS_MAX, PROCESSES_MAX, THREADS_MAX}
-use Rattle.written_kernel.specs.Types.{Pid}
+use Rattle.spec_kernel.specs.Types.{Pid}
 use Rattle.spec_histories.specs.declared.opening.OpeningProcess.{OpeningProcess}
 use Rattle.spec_histories.specs.declared.opening.OpeningThread.{OpeningThread}
 use Rattle.spec_histories.specs.Openings.{limit_of}

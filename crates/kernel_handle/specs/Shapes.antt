@@ -3,8 +3,8 @@ use Rattle.std.specs.Prelude.{ℕ, ◌+◌, ◌<◌, List, [], ◌∷◌, ◌++�
 use Rattle.std.specs.Option.{option_map_or}
 use Rattle.dk_base.specs.ByNumber.{at_number}
 use Rattle.dk_base.specs.declared.limits.TheConstants.{THREADS_MAX}
-use Rattle.kernel_records.specs.Words.{pid}
-use Rattle.written_kernel.specs.Types.{Pid}
+use Rattle.spec_records.specs.Words.{pid}
+use Rattle.spec_kernel.specs.Types.{Pid}
 use Rattle.spec_histories.specs.declared.opening.OpeningProcess.{OpeningProcess}
 use Rattle.spec_histories.specs.declared.opening.OpeningThread.{OpeningThread}
 use Rattle.spec_histories.specs.Openings.{limit_of}

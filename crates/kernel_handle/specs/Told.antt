@@ -1,8 +1,8 @@
 -- What a recorder answers, in the words of histories.
 use Rattle.std.specs.Prelude.{ℕ, ◌≡◌, ◌≤◌, ◌&&◌, Option, Some, None, false, not}
 use Rattle.dk_base.specs.declared.limits.TheConstants.{EVENTS_MAX}
-use Rattle.written_kernel.specs.Types.{Request}
-use Rattle.written_kernel.specs.Words.{IsFit, MayTurn, State, is_runnable, is_running}
+use Rattle.spec_kernel.specs.Types.{Request}
+use Rattle.spec_kernel.specs.Words.{IsFit, MayTurn, State, is_runnable, is_running}
 use Rattle.spec_histories.specs.Histories.{Entry}
 use Rattle.kernel_handle.specs.declared.recorder.Refused.{Refused}
 use Rattle.kernel_handle.specs.declared.recorder.Refused.TheVariants as why

@@ -2,8 +2,8 @@
 ghost use Rattle.std.specs.Prelude.{◌≡◌, ◌↔◌, ◌≤◌, IfErr, IfOk, None, OnErr, OnOk, Some, length, true};
 ghost use Rattle.std.specs.Option.{option_map};
 ghost use Rattle.dk_base.specs.declared.limits.TheConstants.{EVENTS_MAX, THREADS_MAX};
-ghost use Rattle.written_kernel.specs.Words.{IsFit, is_runnable, is_running, least_runnable, now, root, state_of, waiting_threads};
-ghost use Rattle.answering_kernel.specs.Small.{IsSmall};
+ghost use Rattle.spec_kernel.specs.Words.{IsFit, is_runnable, is_running, least_runnable, now, root, state_of, waiting_threads};
+ghost use Rattle.spec_kernel.specs.Small.{IsSmall};
 ghost use Rattle.spec_histories.specs.Histories.{IsHistory, begun, end, grown, next};
 ghost use Rattle.spec_histories.specs.Openings.{opening_of};
 ghost use Rattle.kernel_handle.specs.Openings.{IsNoOpening};
@@ -19,8 +19,8 @@ use dk_base::list::TidList;
 use dk_base::number::Tid;
 use dk_base::request::Request;
 use kernel_core::kernel::Kernel;
-use kernel_records::record::ThreadState;
 use spec_histories::opening::{OpeningProcess, OpeningThread};
+use spec_records::record::ThreadState;
 use std::alloc::Global;
 use std::marker::Model;
 

@@ -4,7 +4,7 @@ ghost use Rattle.std.specs.List.{AllByRecursion};
 ghost use Rattle.std.specs.Option.{option_map};
 ghost use Rattle.dk_base.specs.ByNumber.{at_number};
 ghost use Rattle.dk_base.specs.declared.limits.TheConstants.{DESCRIPTORS_MAX, PROCESSES_MAX};
-ghost use Rattle.written_kernel.specs.Words.{opening};
+ghost use Rattle.spec_kernel.specs.Words.{opening};
 ghost use Rattle.spec_histories.specs.declared.opening.OpeningProcess.{OpeningProcess};
 ghost use Rattle.spec_histories.specs.declared.opening.OpeningThread.{OpeningThread};
 ghost use Rattle.spec_histories.specs.Openings.{limit_of, opening_of, with_children, with_threads};
@@ -15,8 +15,8 @@ use dk_base::limits::{DESCRIPTORS_MAX, PROCESSES_MAX};
 use dk_base::list::IdList;
 use dk_base::number::Pid;
 use kernel_core::kernel::Kernel;
-use kernel_records::numbered::numbered_item;
 use spec_histories::opening::{OpeningProcess, OpeningThread};
+use spec_records::numbered::numbered_item;
 use std::alloc::Global;
 
 /// Why no history begins with such processes and threads.

@@ -2,21 +2,21 @@
 ghost use Rattle.std.specs.Prelude.{◌≡◌, ◌↔◌, ◌≤◌, IfErr, IfOk, None, OnErr, OnOk, Some, length, true};
 ghost use Rattle.std.specs.Option.{option_map};
 ghost use Rattle.dk_base.specs.declared.limits.TheConstants.{EVENTS_MAX, THREADS_MAX};
-ghost use Rattle.written_kernel.specs.Words.{IsFit, MayTurn, State, is_runnable, is_running, is_waiting_state, least_runnable, now, root, state_of, waiting_threads, what_of};
-ghost use Rattle.answering_kernel.specs.Small.{IsSmall};
+ghost use Rattle.spec_kernel.specs.Words.{IsFit, MayTurn, State, is_runnable, is_running, is_waiting_state, least_runnable, now, root, state_of, waiting_threads, what_of};
+ghost use Rattle.spec_kernel.specs.Small.{IsSmall};
 ghost use Rattle.spec_histories.specs.Histories.{IsHistory, begun, end, grown, next};
 ghost use Rattle.kernel_handle.specs.Told.{IsRefused, entry_told};
 
 use crate::story::Story;
-use answering_kernel::asked::Answers;
-use answering_kernel::what::{of_entry, of_wait};
 use dk_base::error::NoMemory;
 use dk_base::event::{Stepped, What};
 use dk_base::limits::EVENTS_MAX;
 use dk_base::list::TidList;
 use dk_base::number::Tid;
 use dk_base::request::Request;
-use kernel_records::record::ThreadState;
+use spec_kernel::answering::Answers;
+use spec_kernel::what::{of_entry, of_wait};
+use spec_records::record::ThreadState;
 use std::alloc::Global;
 use std::marker::Model;
 

@@ -7,8 +7,8 @@ ghost use Rattle.kernel_handle.specs.Shapes.{AreTooMany, limit_in, processes_of,
 use crate::opening::NotOpening;
 use dk_base::limits::THREADS_MAX;
 use dk_base::number::Pid;
-use kernel_records::numbered::numbered_item;
 use spec_histories::opening::{OpeningProcess, OpeningThread};
+use spec_records::numbered::numbered_item;
 use std::alloc::Global;
 
 /// A process with as many threads and, after them, spares. Of a child the limit of its parent counts, where that stands before it.

@@ -1,7 +1,7 @@
 //! A history that only clauses read.
 ghost use Rattle.std.specs.Prelude.{◌≡◌};
 ghost use base.Fml.{ftrue};
-ghost use Rattle.written_kernel.specs.Words.{State};
+ghost use Rattle.spec_kernel.specs.Words.{State};
 ghost use Rattle.spec_histories.specs.Histories.{History, begun, grown, next};
 
 use dk_base::number::Tid;

@@ -9,14 +9,14 @@ use Rattle.std.specs.List.{AllByRecursion, IsDistinct, list_any}
 use Rattle.dk_base.specs.declared.error.Errno.{Errno}
 use Rattle.dk_base.specs.declared.error.Errno.TheVariants.{EBADF, EINTR}
 use Rattle.dk_base.specs.declared.limits.TheConstants.{DESCRIPTORS_MAX, PASS_MAX, PROCESSES_MAX, THREADS_MAX}
-use Rattle.kernel_records.specs.declared.record.CallStage.TheVariants as stage
-use Rattle.kernel_records.specs.Words.{CallTree, IsAscending, Leaving, abandoned_at, at_stage, broken_call_at, call_number, change_first, close_row, empty_table, ended_where, free_place, gone_call_at, insert_row, insert_rows, is_live_call, is_object, is_queued, is_queued_as, left_call, objects_of, release_row, release_rows, table_in, tid, with_table, without_arguments_at}
-use Rattle.kernel_records.proofs.Lists.{at_number-suc, with_at_number-suc}
+use Rattle.spec_records.specs.declared.record.CallStage.TheVariants as stage
+use Rattle.spec_records.specs.Words.{CallTree, IsAscending, Leaving, abandoned_at, at_stage, broken_call_at, call_number, change_first, close_row, empty_table, ended_where, free_place, gone_call_at, insert_row, insert_rows, is_live_call, is_object, is_queued, is_queued_as, left_call, objects_of, release_row, release_rows, table_in, tid, with_table, without_arguments_at}
+use Rattle.spec_records.proofs.Lists.{at_number-suc, with_at_number-suc}
 use Rattle.call_tree.proofs.Parting.{Each, each_both, each_found, each_map}
 use Rattle.call_tree.specs.Words.{AreSound, IsThread, is_call, is_called_by}
 use Rattle.unref_notice.specs.declared.counts.TheConstants.{STEP_MAX}
-use Rattle.written_kernel.specs.Types.{Call, CallStage, Name, Obj, Pass}
-use Rattle.written_kernel.specs.Words.{named_object, objects_in_call, objects_in_transit}
+use Rattle.spec_kernel.specs.Types.{Call, CallStage, Name, Obj, Pass}
+use Rattle.spec_kernel.specs.Words.{named_object, objects_in_call, objects_in_transit}
 use Rattle.kernel_holdings.specs.Words.{AreNarrow, CarryFew, HoldFew, TRANSIT_MAX, references_to}
 use Rattle.kernel_holdings.proofs.Referring.{references_to-parts}
 

@@ -1,8 +1,8 @@
 -- How many objects are in transit in all.
 use Rattle.std.proofs.Common.{◌≡◌, ℕ, ◌+◌, ◌-◌, ◌≤◌, Bool, true, cond, List, [], ◌∷◌, count_by, flat_map, length, refl, ap, ◌∙◌, arith}
 use Rattle.std.proofs.lemmas.List.Sums.{sum_by-cons}
-use Rattle.written_kernel.specs.Types.{Call, Obj}
-use Rattle.written_kernel.specs.Words.{objects_in_call}
+use Rattle.spec_kernel.specs.Types.{Call, Obj}
+use Rattle.spec_kernel.specs.Words.{objects_in_call}
 use Rattle.kernel_holdings.proofs.TransitCounts.{in_transit}
 
 -- each object is one of them

@@ -2,9 +2,9 @@
 use Rattle.std.proofs.Common.{◌≡◌, ℕ, zero, suc, ◌-◌, ◌<◌, ◌≤◌, List, [], ◌∷◌, ◌++◌, Option, drop, get_or, length, slice_set, take, unwrap_or, refl, sym, ap, ◌∙◌, arith}
 use Rattle.std.proofs.lemmas.Option.{slice_get-get_or}
 use Rattle.std.proofs.lemmas.List.{length-set}
-use Rattle.kernel_records.specs.Words.{table_in, with_table}
-use Rattle.kernel_records.proofs.Lists.{at_number-suc, with_at_number-suc}
-use Rattle.written_kernel.specs.Types.{Obj}
+use Rattle.spec_records.specs.Words.{table_in, with_table}
+use Rattle.spec_records.proofs.Lists.{at_number-suc, with_at_number-suc}
+use Rattle.spec_kernel.specs.Types.{Obj}
 
 -- the first table of those behind is written over
 set_behind : {X : Type 0} (front back : List X) (x : X) → slice_set (front ++ back) (length front) x ≡ front ++ slice_set back 0 x

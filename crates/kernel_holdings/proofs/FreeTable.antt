@@ -1,7 +1,7 @@
 -- The table of a process that has free descriptors, read and written at its place.
 use Rattle.std.proofs.Common.{◌≡◌, ℕ, zero, suc, ◌-◌, ◌<◌, ◌==◌, Bool, true, false, List, [], ◌∷◌, Option, None, if◌then◌else◌, get_or, set, unwrap_or, slice_get, slice_set, refl, ap, ◌∙◌, arith}
 use Rattle.dk_base.specs.declared.object.Obj.{Obj}
-use Rattle.kernel_records.specs.Words.{free_rows, table_in, with_table}
+use Rattle.spec_records.specs.Words.{free_rows, table_in, with_table}
 
 read_there : (ts : List (List (Option Obj))) (i : ℕ) (d : List (Option Obj)) → 0 < free_rows (unwrap_or (slice_get ts i) []) → get_or ts i d ≡ unwrap_or (slice_get ts i) []
 read_there [] i d h = absurd (omega arith)

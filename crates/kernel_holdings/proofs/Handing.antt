@@ -2,18 +2,18 @@
 use Rattle.std.proofs.Common.{count_by, ◌≡◌, ℕ, ◌+◌, ◌≤◌, ◌==◌, ◌&&◌, Bool, true, List, [], ◌∷◌, Option, Some, None, IsSome, find, length, refl, sym, subst, ap, ◌∙◌, arith}
 use Rattle.std.proofs.lemmas.Bool.Decides.{nat_tests}
 use Rattle.dk_base.specs.declared.number.Tid.{Tid}
-use Rattle.kernel_records.proofs.NumberedLists.{find-passes}
-use Rattle.kernel_records.specs.Words.{CallTree, collect_call, enter_call, fail_call, is_given_as, is_given_to, is_to_collect, is_to_collect_as, live_calls}
+use Rattle.spec_records.proofs.NumberedLists.{find-passes}
+use Rattle.spec_records.specs.Words.{CallTree, collect_call, enter_call, fail_call, is_given_as, is_given_to, is_to_collect, is_to_collect_as, live_calls}
 use Rattle.call_tree.specs.Calls.{args_in, outcome_at}
 use Rattle.call_tree.specs.declared.parts.Outcome.{Outcome}
-use Rattle.kernel_records.specs.declared.record.CallStage.TheVariants as stage
+use Rattle.spec_records.specs.declared.record.CallStage.TheVariants as stage
 use Rattle.dk_base.specs.declared.limits.TheConstants.{PASS_MAX}
 use Rattle.kernel_holdings.specs.Words.{CarryFew, results_in}
 use Rattle.kernel_holdings.proofs.Bounds.{few_found}
 use Rattle.call_tree.specs.Words.{AreSound, argument_objects, arguments_at, is_call, is_called_by, is_given, is_given_call, is_ready_of, is_waiting_as, outcome_in}
 use Rattle.call_tree.specs.declared.parts.Args.{Args}
-use Rattle.written_kernel.specs.Types.{Call, CallStage, Obj}
-use Rattle.written_kernel.specs.Words.{objects_collected, objects_collected_in, objects_in_call, objects_in_transit}
+use Rattle.spec_kernel.specs.Types.{Call, CallStage, Obj}
+use Rattle.spec_kernel.specs.Words.{objects_collected, objects_collected_in, objects_in_call, objects_in_transit}
 use Rattle.kernel_holdings.proofs.TransitCounts.{collect_call-in_transit, enter_call-in_transit, fail_call-in_transit, given_transit, if_found, in_transit, transit_of}
 
 -- what one test finds another does, if it passes that too

@@ -4,11 +4,11 @@ use Rattle.std.specs.List.{cons_option, list_any}
 use Rattle.std.specs.Option.{option_to_list}
 use Rattle.std.proofs.lemmas.List.{length-append, take-append-drop, take_more}
 use Rattle.std.proofs.lemmas.List.Sums.{count_by-le-length, sum_by-cons}
-use Rattle.kernel_records.proofs.Passing.{length-release_rows, object_named-kept, releases}
+use Rattle.spec_records.proofs.Passing.{length-release_rows, object_named-kept, releases}
 use Rattle.std.proofs.lemmas.List.Elements.{filter-append, filter_map-append}
 use Rattle.std.proofs.lemmas.Option.{slice_get-get_or}
-use Rattle.kernel_records.specs.Words.{close_row, count_object, free_rows, has_double_release, is_double, release_row, release_rows, object_in, object_named, object_passed, objects_of, objects_passed, row_object}
-use Rattle.written_kernel.specs.Types.{Obj, Pass}
+use Rattle.spec_records.specs.Words.{close_row, count_object, free_rows, has_double_release, is_double, release_row, release_rows, object_in, object_named, object_passed, objects_of, objects_passed, row_object}
+use Rattle.spec_kernel.specs.Types.{Obj, Pass}
 use Rattle.kernel_holdings.specs.Words.{is_released}
 use Rattle.kernel_holdings.proofs.Referring.{count_object-append}
 

@@ -6,9 +6,9 @@ use Rattle.std.specs.List.{AllByRecursion}
 use Rattle.dk_base.specs.declared.error.Errno.{Errno}
 use Rattle.dk_base.specs.declared.number.PathId.{PathId}
 use Rattle.dk_base.specs.declared.object.Obj.TheVariants as obj
-use Rattle.kernel_records.specs.Words.{count_object, has_path, name_in, without_name}
-use Rattle.written_kernel.specs.Types.{Call, Name, Obj}
-use Rattle.written_kernel.specs.Words.{named_object}
+use Rattle.spec_records.specs.Words.{count_object, has_path, name_in, without_name}
+use Rattle.spec_kernel.specs.Types.{Call, Name, Obj}
+use Rattle.spec_kernel.specs.Words.{named_object}
 use Rattle.name_space.specs.Words.{HaveDistinctPaths, attached_door, door_of_name, path_number}
 use Rattle.unref_notice.specs.Words.{ObjectCounts, count_of}
 use Rattle.kernel_holdings.specs.Words.{IsCountOf}

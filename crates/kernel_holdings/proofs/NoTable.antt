@@ -1,9 +1,9 @@
 -- A number that no table has: nothing is taken out there, and nothing is installed.
 use Rattle.std.proofs.Common.{◌≡◌, ℕ, zero, suc, ◌-◌, ◌==◌, not, true, false, List, [], ◌∷◌, ◌++◌, Option, None, if◌then◌else◌, nat_le, length, unwrap_or, slice_get, slice_set, refl, sym, ap, ◌∙◌, arith, append-nil}
 use Rattle.std.proofs.lemmas.Bool.Decides.{nat_tests}
-use Rattle.written_kernel.specs.Types.{Obj, Pass}
+use Rattle.spec_kernel.specs.Types.{Obj, Pass}
 use Rattle.dk_base.specs.ByNumber.{at_number}
-use Rattle.kernel_records.specs.Words.{free_rows, insert_rows, is_bad_pass, new_descriptors, objects_passed, table_in, with_table}
+use Rattle.spec_records.specs.Words.{free_rows, insert_rows, is_bad_pass, new_descriptors, objects_passed, table_in, with_table}
 
 set_nowhere : {X : Type 0} (xs : List X) (i : ℕ) (x : X) → slice_get xs i ≡ None → slice_set xs i x ≡ xs
 set_nowhere [] i x h = refl

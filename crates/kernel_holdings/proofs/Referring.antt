@@ -1,9 +1,9 @@
 -- The references of an object are those in descriptors, those of names, and those in transit.
 use Rattle.std.proofs.Common.{◌≡◌, ◌+◌, Bool, cond, count_by, List, [], ◌∷◌, ◌++◌, Option, map, flat_map, ap, ◌∙◌}
 use Rattle.std.proofs.lemmas.List.Sums.{length-filter, sum_by-append}
-use Rattle.kernel_records.specs.Words.{count_object, is_object, objects_of}
-use Rattle.written_kernel.specs.Types.{Call, Name, Obj}
-use Rattle.written_kernel.specs.Words.{named_object, objects_in_call}
+use Rattle.spec_records.specs.Words.{count_object, is_object, objects_of}
+use Rattle.spec_kernel.specs.Types.{Call, Name, Obj}
+use Rattle.spec_kernel.specs.Words.{named_object, objects_in_call}
 use Rattle.kernel_holdings.specs.Words.{references_to}
 
 pub count_by-append : (p : Obj → Bool) (xs ys : List Obj) → count_by p (xs ++ ys) ≡ count_by p xs + count_by p ys

@@ -10,11 +10,11 @@ use Rattle.std.proofs.lemmas.List.Sums.{count_by-le-length}
 use Rattle.std.proofs.lemmas.Option.{slice_get-get_or}
 use Rattle.dk_base.specs.ByNumber.{at_number}
 use Rattle.dk_base.specs.declared.number.Fd.{Fd}
-use Rattle.kernel_records.specs.Words.{close_row, close_table, count_object, empty_table, free_place, free_rows, has_double_release, insert_row, insert_rows, is_object, lowest_free, object_in, object_named, object_passed, objects_of, objects_passed, release_rows, table_in, with_table}
-use Rattle.kernel_records.proofs.Passing.{count_object-release_rows}
+use Rattle.spec_records.specs.Words.{close_row, close_table, count_object, empty_table, free_place, free_rows, has_double_release, insert_row, insert_rows, is_object, lowest_free, object_in, object_named, object_passed, objects_of, objects_passed, release_rows, table_in, with_table}
+use Rattle.spec_records.proofs.Passing.{count_object-release_rows}
 use Rattle.fd_table.proofs.Lowest.{free_taken_at, free_there, place_is, some_place}
-use Rattle.written_kernel.specs.Types.{Call, Name, NoMemory, Obj, Pass}
-use Rattle.kernel_records.proofs.Lists.{at_number-suc, with_at_number-suc}
+use Rattle.spec_kernel.specs.Types.{Call, Name, NoMemory, Obj, Pass}
+use Rattle.spec_records.proofs.Lists.{at_number-suc, with_at_number-suc}
 use Rattle.unref_notice.specs.Words.{ObjectCounts, count_of}
 use Rattle.kernel_holdings.specs.Words.{IsCountOf, is_released}
 use Rattle.kernel_holdings.proofs.NoTable.{no_table, none_changed}

@@ -6,11 +6,11 @@ use Rattle.std.proofs.lemmas.List.Sums.{sum_by-append, sum_by-cons}
 use Rattle.std.specs.List.Sorted.{IsNonDecreasing}
 use Rattle.std.specs.Ordering.{nat_cmp}
 use Rattle.dk_base.specs.declared.object.Obj.TheVariants as obj
-use Rattle.kernel_records.specs.Words.{AreNumbered, notice_doors, numbers_where, takes_notices_in}
-use Rattle.kernel_records.proofs.DoorNumbers.{notice_doors_numbered}
-use Rattle.kernel_records.proofs.Lists.{numbered_past}
+use Rattle.spec_records.specs.Words.{AreNumbered, notice_doors, numbers_where, takes_notices_in}
+use Rattle.spec_records.proofs.DoorNumbers.{notice_doors_numbered}
+use Rattle.spec_records.proofs.Lists.{numbered_past}
 use Rattle.unref_notice.specs.Words.{CountsValue, has_fallen, how_many, was_shared}
-use Rattle.written_kernel.specs.Types.{Call, Door, Name, Obj}
+use Rattle.spec_kernel.specs.Types.{Call, Door, Name, Obj}
 use Rattle.kernel_holdings.specs.Words.{IsCountOf, references_in, takes}
 
 abbrev pub once : Bool → ℕ

@@ -2,12 +2,12 @@
 use Rattle.std.proofs.Common.{count_by, ◌≡◌, ℕ, ◌+◌, ◌-◌, ◌≤◌, ◌==◌, ◌&&◌, not, Bool, true, false, cond, if◌then◌else◌, List, [], ◌∷◌, ◌++◌, Option, Some, None, is_some, filter, find, flat_map, refl, sym, ap, ◌∙◌, arith, append-nil, true≢false}
 use Rattle.std.proofs.lemmas.Grind.{flat_map-append}
 use Rattle.dk_base.specs.declared.error.Errno.TheVariants.{EMFILE}
-use Rattle.kernel_records.specs.declared.record.CallStage.TheVariants as stage
-use Rattle.kernel_records.specs.Words.{CallTree, at_stage, change_first, collect_call, count_object, enter_call, fail_call, give_call, is_client_call_of, is_entered_by, is_given_as, is_given_to, is_live_call, is_object, is_queued, is_queued_as, is_to_collect_as, live_calls, open_call, return_call, tid, without_arguments_at}
+use Rattle.spec_records.specs.declared.record.CallStage.TheVariants as stage
+use Rattle.spec_records.specs.Words.{CallTree, at_stage, change_first, collect_call, count_object, enter_call, fail_call, give_call, is_client_call_of, is_entered_by, is_given_as, is_given_to, is_live_call, is_object, is_queued, is_queued_as, is_to_collect_as, live_calls, open_call, return_call, tid, without_arguments_at}
 use Rattle.unref_notice.specs.Words.{ObjectCounts, count_of}
-use Rattle.written_kernel.specs.Types.{Call, CallStage, Name, Obj}
-use Rattle.written_kernel.specs.Words.{objects_in_call, objects_in_transit}
-use Rattle.written_kernel.proofs.CallLists.{objects-live}
+use Rattle.spec_kernel.specs.Types.{Call, CallStage, Name, Obj}
+use Rattle.spec_kernel.specs.Words.{objects_in_call, objects_in_transit}
+use Rattle.spec_kernel.proofs.CallLists.{objects-live}
 use Rattle.kernel_holdings.specs.Words.{IsCountOf}
 use Rattle.kernel_holdings.proofs.Referring.{count_by-append, references_to-parts}
 

@@ -2,13 +2,13 @@
 use Rattle.std.specs.Prelude.{ℕ, ◌≡◌, ◌≤◌, ◌==◌, ◌&&◌, Bool, List, [], ◌∷◌, Option, filter, is_some, length, true}
 use Rattle.dk_base.specs.declared.object.Obj.TheVariants as obj
 use Rattle.dk_base.specs.ByNumber.{at_number}
-use Rattle.kernel_records.specs.declared.leaving.Leaver.{Leaver}
-use Rattle.kernel_records.specs.declared.leaving.Leaver.TheVariants.{EndedProcess}
-use Rattle.kernel_records.specs.Words.{ProcessTable, count_object, is_object, process_end, takes_notices_in}
+use Rattle.spec_records.specs.declared.leaving.Leaver.{Leaver}
+use Rattle.spec_records.specs.declared.leaving.Leaver.TheVariants.{EndedProcess}
+use Rattle.spec_records.specs.Words.{ProcessTable, count_object, is_object, process_end, takes_notices_in}
 use Rattle.exit_paths.specs.Words.{AreLost}
 use Rattle.server_pool.specs.Words.{PoolsValue}
-use Rattle.written_kernel.specs.Types.{Call, Door, Name, Obj, Pass}
-use Rattle.written_kernel.specs.Words.{holdings_in, objects_in_call}
+use Rattle.spec_kernel.specs.Types.{Call, Door, Name, Obj, Pass}
+use Rattle.spec_kernel.specs.Words.{holdings_in, objects_in_call}
 use Rattle.dk_base.specs.declared.limits.TheConstants.{DESCRIPTORS_MAX, PASS_MAX, PROCESSES_MAX}
 use Rattle.name_space.specs.Words.{HasRoomForName, NameTable}
 use Rattle.call_tree.specs.declared.parts.Outcome.{Outcome}

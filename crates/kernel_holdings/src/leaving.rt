@@ -1,6 +1,6 @@
 //! Which exit path is taken.
 ghost use Rattle.std.specs.Prelude.{◌≡◌, ◌≤◌, IfOk, OnErr};
-ghost use Rattle.kernel_records.specs.Words.{leaving_of};
+ghost use Rattle.spec_records.specs.Words.{leaving_of};
 ghost use Rattle.exit_paths.specs.Words.{CanExit, HasExited, IsAsBefore, in_transit};
 ghost use Rattle.kernel_holdings.specs.Words.{CanEnd};
 
@@ -9,9 +9,9 @@ use dk_base::error::NoMemory;
 use door_object::doors::Doors;
 use exit_paths::exits::{fork_exit, interrupt, proc_exit, revoke_all, thread_exit};
 use exit_paths::left::Left;
-use kernel_records::leaving::Leaver;
 use proc_table::procs::Procs;
 use server_pool::pools::Pools;
+use spec_records::leaving::Leaver;
 use std::alloc::Global;
 
 /// Callers, threads and doors leave, of which it is told. At most `carried` objects are in transit with calls. Want of memory leaves

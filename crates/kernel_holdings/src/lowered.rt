@@ -2,9 +2,9 @@
 ghost use Rattle.std.specs.Prelude.{◌≡◌, ◌+◌, ◌-◌, ◌≤◌, Some, filter, length};
 ghost use Rattle.std.specs.Option.{option_to_list};
 ghost use Rattle.dk_base.specs.declared.object.Obj.{Obj};
-ghost use Rattle.kernel_records.specs.declared.record.Call.{Call};
-ghost use Rattle.kernel_records.specs.Words.{count_object, object_named, objects_of, objects_passed, table_in};
-ghost use Rattle.written_kernel.specs.Words.{objects_collected_in};
+ghost use Rattle.spec_records.specs.declared.record.Call.{Call};
+ghost use Rattle.spec_records.specs.Words.{count_object, object_named, objects_of, objects_passed, table_in};
+ghost use Rattle.spec_kernel.specs.Words.{objects_collected_in};
 ghost use Rattle.call_tree.specs.Words.{outcome_in};
 ghost use Rattle.unref_notice.specs.Words.{count_of};
 ghost use Rattle.kernel_holdings.specs.Words.{is_released, results_in};

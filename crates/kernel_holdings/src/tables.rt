@@ -1,7 +1,7 @@
 //! The descriptor tables of processes, at their places.
 ghost use Rattle.std.specs.Prelude.{◌≡◌, ◌+◌, ◌<◌, ◌≤◌, ◌++◌, [], ◌∷◌, length, None, true, is_none, is_some, nat_le, IfSome, IfNone, OnOk, OnErr};
 ghost use Rattle.dk_base.specs.ByNumber.{at_number};
-ghost use Rattle.kernel_records.specs.Words.{close_row, close_table, descriptor, empty_table, free_place, free_rows, insert_row, insert_rows, is_bad_pass, lowest_free, new_descriptors, object_named, objects_of, objects_passed, release_rows, table_in, with_table};
+ghost use Rattle.spec_records.specs.Words.{close_row, close_table, descriptor, empty_table, free_place, free_rows, insert_row, insert_rows, is_bad_pass, lowest_free, new_descriptors, object_named, objects_of, objects_passed, release_rows, table_in, with_table};
 
 use arg_transfer::passing::{check_pass, install_fitting, take_out};
 use dk_base::error::NoMemory;
@@ -10,7 +10,7 @@ use dk_base::number::{Fd, Pid};
 use dk_base::object::Obj;
 use fd_table::table::FdTable;
 use fork_step::forking::fork_rows;
-use kernel_records::numbered::numbered_item;
+use spec_records::numbered::numbered_item;
 use std::alloc::Global;
 use std::marker::Model;
 
@@ -22,7 +22,7 @@ pub struct Tables {
 
 impl Model for Tables {
     ghost use Rattle.std.specs.Prelude.{List, Option};
-    ghost use Rattle.written_kernel.specs.Types.{Obj};
+    ghost use Rattle.spec_kernel.specs.Types.{Obj};
 
     ghost Value = { List (List (Option Obj)) };
 

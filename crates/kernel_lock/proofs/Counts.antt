@@ -1,6 +1,6 @@
 -- How many events there are after more turns.
 use Rattle.std.proofs.Common.{◌≡◌, ℕ, ◌+◌, List, [], ◌∷◌, length, length-append, arith}
-use Rattle.written_script.specs.Words.{event_at_turn}
+use Rattle.spec_scripts.specs.Words.{event_at_turn}
 use Rattle.sys_run.specs.Sys.{SysValue, history, with_turn, with_turns}
 
 length-with_turn : (p : SysValue) (t : ℕ) → length (with_turn p t).journal ≡ length p.journal + 1

@@ -1,9 +1,9 @@
 -- What a look under the lock finds of the run: whether it has ended, who is runnable, and which threads are marked.
 use Rattle.std.specs.Prelude.{ℕ, ◌==◌, ◌||◌, Bool, List, Option, find}
 use Rattle.std.specs.List.{list_any}
-use Rattle.written_kernel.specs.Types.{Tid}
-use Rattle.written_kernel.specs.Words.{State, is_runnable}
-use Rattle.written_script.specs.Words.{is_over}
+use Rattle.spec_kernel.specs.Types.{Tid}
+use Rattle.spec_kernel.specs.Words.{State, is_runnable}
+use Rattle.spec_scripts.specs.Words.{is_over}
 use Rattle.sys_run.specs.Sys.{SysValue, history}
 
 -- no turn may be taken any more: the run was stopped, or is over

@@ -1,6 +1,6 @@
 -- Why the driver of a thread leaves.
 use Rattle.std.specs.Prelude.{ℕ, ◌≡◌, true}
-use Rattle.shared_run.specs.declared.asked.SharedRun.{Ghosts}
+use Rattle.sys_run.specs.declared.asked.SharedRun.{Ghosts}
 use Rattle.kernel_lock.specs.Ends.{has_ended, is_member}
 use Rattle.kernel_lock.specs.declared.running.looks.Left.{Left}
 use Rattle.kernel_lock.specs.declared.running.looks.Left.TheVariants as left

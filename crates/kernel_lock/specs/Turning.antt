@@ -1,12 +1,12 @@
 -- What a look under the lock finds, takes and leaves.
 use Rattle.std.specs.Prelude.{ℕ, ◌≡◌, ◌+◌, Bool, true, false, List, [], ◌∷◌, ◌++◌, Option, Some, None, find}
 use Rattle.std.specs.List.{list_any}
-use Rattle.written_kernel.specs.Types.{Tid}
-use Rattle.written_kernel.specs.Words.{State, is_runnable}
-use Rattle.written_script.specs.Words.{is_over}
+use Rattle.spec_kernel.specs.Types.{Tid}
+use Rattle.spec_kernel.specs.Words.{State, is_runnable}
+use Rattle.spec_scripts.specs.Words.{is_over}
 use Rattle.sys_run.specs.Sys.{SysValue, WorksOn, history, is_working, state_of_run, threads_woken_by, with_turn}
 use Rattle.work_ops.specs.Words.{TaskValue}
-use Rattle.shared_run.specs.declared.asked.SharedRun.{Ghosts}
+use Rattle.sys_run.specs.declared.asked.SharedRun.{Ghosts}
 use Rattle.kernel_lock.specs.Ends.{first_runnable_of, has_ended, is_member}
 use Rattle.kernel_lock.specs.declared.running.looks.Idle.{Idle}
 use Rattle.kernel_lock.specs.declared.turns.HandedIn.{HandedIn}

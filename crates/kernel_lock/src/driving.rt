@@ -10,9 +10,9 @@ use crate::turns::{HandedIn, Next, Turn};
 use dk_base::error::NoMemory;
 use dk_base::number::Tid;
 use dk_base::outside::Gate;
-use shared_run::asked::SharedRun;
 use std::sync::Wait;
 use std::sync::ledger::Ledger;
+use sys_run::asked::SharedRun;
 use work_ops::task::{Done, Task, run};
 
 /// What a driver that has left gives back: its share, and why it left.

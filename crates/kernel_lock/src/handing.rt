@@ -9,8 +9,8 @@ use crate::share::TurnShare;
 use crate::turns::HandedIn;
 use dk_base::error::NoMemory;
 use dk_base::number::Tid;
-use shared_run::asked::SharedRun;
 use std::sync::ledger::Ledger;
+use sys_run::asked::SharedRun;
 use work_ops::task::Done;
 
 impl<S: SharedRun, L: Ledger> Running<S, L> {

@@ -1,6 +1,6 @@
 //! A whole run of a script on threads.
 ghost use Rattle.std.specs.Prelude.{◌≡◌, ◌+◌, ◌<◌, ◌≤◌, ◌^◌, [], length, sum, true, false, IfOk, OnOk};
-ghost use Rattle.written_script.specs.Words.{is_over};
+ghost use Rattle.spec_scripts.specs.Words.{is_over};
 ghost use Rattle.sys_run.specs.Words.{LawsOf, history};
 
 use crate::running::Running;
@@ -10,13 +10,13 @@ use dk_base::error::NoMemory;
 use dk_base::list::{CountList, Room};
 use dk_base::outside::Gate;
 use script_lang::script::Script;
-use shared_run::asked::SharedRun;
 use std::alloc::Global;
 use std::marker::Brand;
 use std::sync::Wait;
 use std::sync::ledger::{Blank, Ledger, Share};
 use std::thread;
 use std::thread::Threads;
+use sys_run::asked::SharedRun;
 use sys_run::sys::Sys;
 
 /// A run, and who took its turns. All of them together are its events.

@@ -1,6 +1,6 @@
 //! What lies under the lock.
 ghost use Rattle.std.specs.Prelude.{◌≡◌, length, true, false, ◌||◌, IfErr, IfOk, OnOk, OnErr, option_copied};
-ghost use Rattle.written_kernel.specs.Words.{is_runnable};
+ghost use Rattle.spec_kernel.specs.Words.{is_runnable};
 ghost use Rattle.sys_run.specs.Sys.{is_working, state_of_run};
 ghost use Rattle.kernel_lock.specs.Ends.{first_runnable_of, has_ended, is_member};
 ghost use Rattle.kernel_lock.specs.Leaving.{IsLeft};
@@ -14,8 +14,8 @@ use crate::turns::{Next, ToNotify, Turn};
 use dk_base::error::NoMemory;
 use dk_base::list::TidList;
 use dk_base::number::Tid;
-use shared_run::asked::SharedRun;
 use std::sync::ledger::{Book, Ledger};
+use sys_run::asked::SharedRun;
 
 /// The run, and whether it was stopped. As many turns are booked as the journal has events.
 #[derive(Drop)]

@@ -7,10 +7,10 @@ use crate::turns::ToNotify;
 use dk_base::error::NoMemory;
 use dk_base::list::{Room, Sequence};
 use dk_base::number::Tid;
-use shared_run::asked::SharedRun;
 use std::alloc::Global;
 use std::sync::ledger::{Book, Ledger};
 use std::sync::{Condvar, Mutex};
+use sys_run::asked::SharedRun;
 
 /// What all drivers share: the run under its lock, and a condition variable for each driver.
 #[derive(Drop)]

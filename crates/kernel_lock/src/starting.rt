@@ -10,11 +10,11 @@ use dk_base::error::NoMemory;
 use dk_base::list::{CountList, Room};
 use dk_base::number::Tid;
 use dk_base::outside::Gate;
-use shared_run::asked::SharedRun;
 use std::alloc::Global;
 use std::sync::Wait;
 use std::sync::ledger::{Ledger, Share};
 use std::thread::{JoinHandle, Scope, Threads};
+use sys_run::asked::SharedRun;
 
 /// A driver that was started, or one that left at once since its start was refused.
 #[derive(Drop)]

@@ -2,7 +2,7 @@
 use crate::running::looks::{AllIdle, Ended, GoesOn, Idle};
 use dk_base::list::TidList;
 use dk_base::number::Tid;
-use shared_run::asked::SharedRun;
+use sys_run::asked::SharedRun;
 use work_ops::task::Task;
 
 /// Whom to notify after a turn.

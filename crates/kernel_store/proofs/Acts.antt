@@ -3,19 +3,19 @@ use Rattle.std.proofs.Common.{◌≡◌, ℕ, ◌+◌, ◌<◌, ◌≤◌, ◌�
 use Rattle.std.proofs.lemmas.Bool.Decides.{nat_tests}
 use Rattle.dk_base.specs.ByNumber.{with_at_number}
 use Rattle.dk_base.specs.declared.object.Item.TheVariants as item
-use Rattle.kernel_records.specs.declared.pool.Pool.TheVariants.{Common, Private}
-use Rattle.kernel_records.specs.declared.pool.TheConstants.{LOST_DOOR}
-use Rattle.kernel_records.specs.declared.record.ThreadState.TheVariants as is
-use Rattle.kernel_records.specs.Words.{bound_at, end_thread, enter_call, enter_notice, enter_thread, is_dormant, is_done, is_idle, park_thread, process_in, set_thread_state, state_in, thread_at, tid}
-use Rattle.written_kernel.specs.Types.{Pool, Thread, ThreadState}
-use Rattle.written_kernel.specs.Words.{bound_of, is_running, is_running_state, state_of}
-use Rattle.kernel_invariant.specs.Core.{is_outside}
+use Rattle.spec_records.specs.declared.pool.Pool.TheVariants.{Common, Private}
+use Rattle.spec_records.specs.declared.pool.TheConstants.{LOST_DOOR}
+use Rattle.spec_records.specs.declared.record.ThreadState.TheVariants as is
+use Rattle.spec_records.specs.Words.{bound_at, end_thread, enter_call, enter_notice, enter_thread, is_dormant, is_done, is_idle, park_thread, process_in, set_thread_state, state_in, thread_at, tid}
+use Rattle.spec_kernel.specs.Types.{Pool, Thread, ThreadState}
+use Rattle.spec_kernel.specs.Words.{bound_of, is_running, is_running_state, state_of}
+use Rattle.law_states.specs.Core.{is_outside}
 use Rattle.server_pool.specs.Words.{AllParkedBefore, PoolValue, PoolsValue, change_pool, item_room_in, park_in, pool_at, stack_in, thread_room_in}
-use Rattle.pool_agreement.specs.Words.{Agrees, IsGivenOut, IsGivenOutBut, own_pool, pool_by}
-use Rattle.pool_agreement.proofs.Noticing.{agrees_enter_notice}
-use Rattle.pool_agreement.proofs.Queues.{agrees_enter as agrees_enter_call}
-use Rattle.pool_agreement.proofs.Readers.{queue-change_other, stack-change_other}
-use Rattle.pool_agreement.proofs.Stacks.{agrees_bind, agrees_ended, agrees_enter, agrees_park, agrees_turn, own_pool_there, park_above}
+use Rattle.law_pools.specs.Words.{Agrees, IsGivenOut, IsGivenOutBut, own_pool, pool_by}
+use Rattle.law_pools.proofs.Noticing.{agrees_enter_notice}
+use Rattle.law_pools.proofs.Queues.{agrees_enter as agrees_enter_call}
+use Rattle.law_pools.proofs.Readers.{queue-change_other, stack-change_other}
+use Rattle.law_pools.proofs.Stacks.{agrees_bind, agrees_ended, agrees_enter, agrees_park, agrees_turn, own_pool_there, park_above}
 use Rattle.kernel_store.specs.Frames.{FillsNoPool, KeepsPools}
 use Rattle.kernel_store.specs.Stored.{ArePlaced, HasRoom, IsAgreed, StoreValue, stored_state}
 

@@ -2,11 +2,11 @@
 use Rattle.std.proofs.Common.{◌≡◌, inl, inr, ℕ, ◌+◌, ◌≤◌, ◌==◌, Bool, true, false, if◌then◌else◌, List, [], ◌∷◌, ◌++◌, Some, length, refl, sym, ap, ◌∙◌, subst, le_refl, arith}
 use Rattle.std.proofs.lemmas.Bool.Decides.{nat_tests}
 use Rattle.dk_base.specs.ByNumber.{at_number}
-use Rattle.kernel_records.specs.declared.pool.Pool.TheVariants.{Common, Private}
-use Rattle.written_kernel.specs.Types.{Pool}
-use Rattle.kernel_records.proofs.Lists.{numbered_past, numbered_push}
+use Rattle.spec_records.specs.declared.pool.Pool.TheVariants.{Common, Private}
+use Rattle.spec_kernel.specs.Types.{Pool}
+use Rattle.spec_records.proofs.Lists.{numbered_past, numbered_push}
 use Rattle.server_pool.specs.Words.{PoolValue, PoolsValue, empty_pool, item_room_in, pool_at, pool_or_empty, queue_in, stack_in}
-use Rattle.pool_agreement.specs.Words.{IsGivenOut, IsGivenOutIn}
+use Rattle.law_pools.specs.Words.{IsGivenOut, IsGivenOutIn}
 use Rattle.exit_paths.specs.Words.{HoldsSame}
 
 -- what is given out stays so, where no thread and no item is added

@@ -3,17 +3,17 @@ use Rattle.std.proofs.Common.{◌≡◌, ℕ, zero, suc, ◌≤◌, ◌==◌, �
 use Rattle.std.proofs.lemmas.Bool.Decides.{nat_tests}
 use Rattle.std.proofs.lemmas.List.Quantifiers.{position-Some}
 use Rattle.std.proofs.lemmas.Option.{slice_get-get_or}
-use Rattle.kernel_records.specs.declared.record.ThreadState.TheVariants as is
-use Rattle.kernel_records.specs.Words.{ProcessTable, change_first, change_thread_in, is_dormant, is_spare_of, set_thread_state, start_spare, start_thread_at, thread_at_state}
-use Rattle.kernel_records.specs.declared.record.Thread.{Thread}
-use Rattle.written_kernel.specs.Types.{Pid}
-use Rattle.kernel_records.proofs.Lists.{at_number-suc, with_at_number-suc}
-use Rattle.kernel_records.proofs.Places.{changed_at, changed_nowhere}
-use Rattle.written_kernel.specs.Words.{State, needs_spare, start_each, start_one}
+use Rattle.spec_records.specs.declared.record.ThreadState.TheVariants as is
+use Rattle.spec_records.specs.Words.{ProcessTable, change_first, change_thread_in, is_dormant, is_spare_of, set_thread_state, start_spare, start_thread_at, thread_at_state}
+use Rattle.spec_records.specs.declared.record.Thread.{Thread}
+use Rattle.spec_kernel.specs.Types.{Pid}
+use Rattle.spec_records.proofs.Lists.{at_number-suc, with_at_number-suc}
+use Rattle.spec_records.proofs.Places.{changed_at, changed_nowhere}
+use Rattle.spec_kernel.specs.Words.{State, needs_spare, start_each, start_one}
 use Rattle.server_pool.specs.Words.{spares_or_none}
-use Rattle.pool_agreement.specs.Words.{is_this}
-use Rattle.pool_agreement.proofs.Starting.{no_spare}
-use Rattle.kernel_records.proofs.Lists.{is_some-at_number}
+use Rattle.law_pools.specs.Words.{is_this}
+use Rattle.law_pools.proofs.Starting.{no_spare}
+use Rattle.spec_records.proofs.Lists.{is_some-at_number}
 use Rattle.dk_base.specs.ByNumber.{at_number}
 use Rattle.kernel_store.specs.Giving.{start_meant}
 use Rattle.kernel_store.specs.Stored.{IsAgreed, StoreValue, stored_state}

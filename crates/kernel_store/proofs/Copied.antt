@@ -1,7 +1,7 @@
 -- Rows of a table are references.
 use Rattle.std.proofs.Common.{◌≤◌, ℕ, List, Option, arith}
-use Rattle.kernel_records.specs.Words.{count_object, objects_of, table_in}
-use Rattle.written_kernel.specs.Types.{Call, Name, Obj}
+use Rattle.spec_records.specs.Words.{count_object, objects_of, table_in}
+use Rattle.spec_kernel.specs.Types.{Call, Name, Obj}
 use Rattle.kernel_holdings.specs.Words.{references_to}
 use Rattle.kernel_holdings.proofs.Referring.{references_to-parts}
 use Rattle.kernel_holdings.proofs.TableCounts.{count_in-close_all}

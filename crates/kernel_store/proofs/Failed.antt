@@ -2,16 +2,16 @@
 use Rattle.std.proofs.Common.{◌≡◌, ℕ, suc, ◌==◌, ◌&&◌, Bool, true, false, if◌then◌else◌, List, [], ◌∷◌, Option, None, Some, is_some, option_map, slice_get, length, refl, sym, subst, ap, ap₂, ◌∙◌, true≢false, arith}
 use Rattle.std.proofs.lemmas.Bool.Decides.{nat_tests}
 use Rattle.dk_base.specs.ByNumber.{at_number}
-use Rattle.kernel_records.specs.declared.record.ThreadState.TheVariants as is
-use Rattle.kernel_records.specs.Words.{bound_in, is_idle, process_in, thread_at_state}
-use Rattle.written_kernel.specs.Types.{Thread}
-use Rattle.written_kernel.specs.Words.{State, bound_of, fail_return, fail_returns, has_invalid_door, has_lost_door, thread_of}
-use Rattle.kernel_records.proofs.Lists.{at_number-suc, at_number-with_at_number, length-with_at_number}
-use Rattle.written_kernel.proofs.Failing.{bound_of-fail_returns, has_lost_door-same, thread_of-fail_returns}
-use Rattle.written_kernel.proofs.Settling.{fail_returns-all, fail_returns-alone, with_threads}
-use Rattle.written_kernel.proofs.Threads.{processes-change_thread}
-use Rattle.pool_agreement.specs.Words.{own_pool, pool_by}
-use Rattle.pool_agreement.proofs.Stacks.{state_changed, thread_elsewhere, thread_there}
+use Rattle.spec_records.specs.declared.record.ThreadState.TheVariants as is
+use Rattle.spec_records.specs.Words.{bound_in, is_idle, process_in, thread_at_state}
+use Rattle.spec_kernel.specs.Types.{Thread}
+use Rattle.spec_kernel.specs.Words.{State, bound_of, fail_return, fail_returns, has_invalid_door, has_lost_door, thread_of}
+use Rattle.spec_records.proofs.Lists.{at_number-suc, at_number-with_at_number, length-with_at_number}
+use Rattle.spec_kernel.proofs.Failing.{bound_of-fail_returns, has_lost_door-same, thread_of-fail_returns}
+use Rattle.spec_kernel.proofs.Settling.{fail_returns-all, fail_returns-alone, with_threads}
+use Rattle.spec_kernel.proofs.Threads.{processes-change_thread}
+use Rattle.law_pools.specs.Words.{own_pool, pool_by}
+use Rattle.law_pools.proofs.Stacks.{state_changed, thread_elsewhere, thread_there}
 
 -- lists with the same items are the same
 

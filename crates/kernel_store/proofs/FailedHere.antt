@@ -1,14 +1,14 @@
 -- An idle thread that lost its door wakes: the pools hold what the records say then.
 use Rattle.std.proofs.Common.{◌≡◌, ℕ, true, List, Option, sym, subst, ap, ap₂, ◌∙◌}
-use Rattle.kernel_records.specs.declared.record.ThreadState.TheVariants as is
-use Rattle.kernel_records.specs.Words.{ProcessTable, is_idle, is_pool, set_thread_state, state_in, thread_at, unbind_thread}
-use Rattle.written_kernel.specs.Types.{Pool}
-use Rattle.written_kernel.specs.Words.{fail_return, has_invalid_door, has_lost_door}
+use Rattle.spec_records.specs.declared.record.ThreadState.TheVariants as is
+use Rattle.spec_records.specs.Words.{ProcessTable, is_idle, is_pool, set_thread_state, state_in, thread_at, unbind_thread}
+use Rattle.spec_kernel.specs.Types.{Pool}
+use Rattle.spec_kernel.specs.Words.{fail_return, has_invalid_door, has_lost_door}
 use Rattle.server_pool.specs.Words.{PoolsValue, change_pool, unpark_in}
-use Rattle.pool_agreement.specs.Words.{Agrees, own_pool}
-use Rattle.pool_agreement.proofs.LeavingPools.{IsParkedSomewhere, agrees_failed, idle_is_parked}
-use Rattle.pool_agreement.proofs.Readers.{bindings-change_pool}
-use Rattle.pool_agreement.proofs.WaitingLists.{both_true}
+use Rattle.law_pools.specs.Words.{Agrees, own_pool}
+use Rattle.law_pools.proofs.LeavingPools.{IsParkedSomewhere, agrees_failed, idle_is_parked}
+use Rattle.law_pools.proofs.Readers.{bindings-change_pool}
+use Rattle.law_pools.proofs.WaitingLists.{both_true}
 use Rattle.kernel_store.specs.Stored.{IsAgreed, StoreValue, stored_state}
 
 -- what is left of the pools

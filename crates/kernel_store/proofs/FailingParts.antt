@@ -2,25 +2,25 @@
 use Rattle.std.proofs.Common.{◌≡◌, ⊎_elim, inl, inr, ℕ, zero, suc, ◌<◌, ◌==◌, ◌&&◌, ◌||◌, ◌∷◌, Bool, true, false, if◌then◌else◌, List, [], Option, None, Some, slice_get, cond, filter, length, refl, sym, subst, ap, ◌∙◌, true≢false, arith}
 use Rattle.std.proofs.lemmas.Bool.Decides.{nat_tests}
 use Rattle.std.proofs.lemmas.List.Sorted.{length_permutation}
-use Rattle.kernel_records.specs.declared.pool.Pool.TheVariants.{Common, Private}
-use Rattle.kernel_records.specs.declared.record.ThreadState.TheVariants as is
-use Rattle.kernel_records.specs.Words.{is_idle, is_pool, numbers_where, thread_at_state}
-use Rattle.kernel_records.proofs.DoorNumbers.{more-numbers_where}
-use Rattle.written_kernel.specs.Types.{Parked, Pool}
-use Rattle.written_kernel.specs.Words.{State, bound_of, fail_return, fail_returns, has_invalid_door, has_lost_door, is_bound_to_invalid, process_of, state_of}
-use Rattle.written_kernel.proofs.Failing.{lost_is_idle, lost_within}
-use Rattle.written_kernel.proofs.Giving.{same_pool}
-use Rattle.written_kernel.proofs.Places.{IsIn}
-use Rattle.written_kernel.proofs.Settling.{fail_returns-none}
-use Rattle.thread_set.specs.declared.set.ThreadSet.{ThreadSet}
-use Rattle.thread_set.specs.Words.{has, with_thread}
+use Rattle.spec_records.specs.declared.pool.Pool.TheVariants.{Common, Private}
+use Rattle.spec_records.specs.declared.record.ThreadState.TheVariants as is
+use Rattle.spec_records.specs.Words.{is_idle, is_pool, numbers_where, thread_at_state}
+use Rattle.dk_base.proofs.NumbersWhere.{more-numbers_where}
+use Rattle.spec_kernel.specs.Types.{Parked, Pool}
+use Rattle.spec_kernel.specs.Words.{State, bound_of, fail_return, fail_returns, has_invalid_door, has_lost_door, is_bound_to_invalid, process_of, state_of}
+use Rattle.spec_kernel.proofs.Failing.{lost_is_idle, lost_within}
+use Rattle.spec_kernel.proofs.Giving.{same_pool}
+use Rattle.spec_kernel.proofs.Places.{IsIn}
+use Rattle.spec_kernel.proofs.Settling.{fail_returns-none}
+use Rattle.dk_base.specs.declared.thread_set.ThreadSet.{ThreadSet}
+use Rattle.dk_base.specs.Words.{has, with_thread}
 use Rattle.server_pool.specs.Words.{PoolValue, PoolsValue, change_pool, is_another_thread, pick_of, stack_in, unpark_in, without_thread}
-use Rattle.pool_agreement.specs.Words.{IsListed, IsParkedIn, own_pool, pool_by}
-use Rattle.pool_agreement.proofs.Leaving.{read_change, read_kept}
-use Rattle.pool_agreement.proofs.LeavingPools.{IsParkedSomewhere, idle_is_parked}
-use Rattle.pool_agreement.proofs.Parked.{in_at, pick_parked_in, top_of_stack, IsTop}
-use Rattle.pool_agreement.proofs.Stacks.{given_is_idle, length-change_thread}
-use Rattle.pool_agreement.proofs.Unparking.{parked_in_own}
+use Rattle.law_pools.specs.Words.{IsListed, IsParkedIn, own_pool, pool_by}
+use Rattle.law_pools.proofs.Leaving.{read_change, read_kept}
+use Rattle.law_pools.proofs.LeavingPools.{IsParkedSomewhere, idle_is_parked}
+use Rattle.law_pools.proofs.Parked.{in_at, pick_parked_in, top_of_stack, IsTop}
+use Rattle.law_pools.proofs.Stacks.{given_is_idle, length-change_thread}
+use Rattle.law_pools.proofs.Unparking.{parked_in_own}
 use Rattle.kernel_store.specs.Failing.{FailsOn, IsFailing, LosesNoneIn, count_lost}
 use Rattle.kernel_store.specs.Frames.{AreIn, IsGivenOutToOthers, LoseDoorsIn}
 use Rattle.kernel_store.specs.Stored.{IsAgreed, StoreValue, stored_state}

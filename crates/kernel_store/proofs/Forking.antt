@@ -12,28 +12,28 @@ use Rattle.dk_base.specs.ByNumber.{at_number, with_at_number}
 use Rattle.dk_base.specs.declared.number.PathId.{PathId}
 use Rattle.dk_base.specs.declared.number.Tid.{Tid}
 use Rattle.dk_base.specs.declared.object.Item.TheVariants as item
-use Rattle.kernel_records.specs.declared.pool.TheConstants.{LOST_DOOR}
-use Rattle.kernel_records.specs.declared.record.ThreadState.TheVariants as is
-use Rattle.kernel_records.specs.Words.{CallTree, IsAscending, Leaving, NoticeList, Port, ProcessTable, begin_process, begun_thread, bind_lost, bound_at, call_number, change_process_in, child_of, first_place, ended_thread, interrupted_where, is_dormant, is_first_of, is_idle, is_served_by, is_spare_in, left_thread, left_thread_of, left_threads, make_child, new_thread, parked_at, process_in, state_in, thread_at}
-use Rattle.kernel_records.proofs.Lists.{at_number-map, at_number-suc, length-with_at_number, with_at_number-suc}
+use Rattle.spec_records.specs.declared.pool.TheConstants.{LOST_DOOR}
+use Rattle.spec_records.specs.declared.record.ThreadState.TheVariants as is
+use Rattle.spec_records.specs.Words.{CallTree, IsAscending, Leaving, NoticeList, Port, ProcessTable, begin_process, begun_thread, bind_lost, bound_at, call_number, change_process_in, child_of, first_place, ended_thread, interrupted_where, is_dormant, is_first_of, is_idle, is_served_by, is_spare_in, left_thread, left_thread_of, left_threads, make_child, new_thread, parked_at, process_in, state_in, thread_at}
+use Rattle.spec_records.proofs.Lists.{at_number-map, at_number-suc, length-with_at_number, with_at_number-suc}
 use Rattle.proc_table.specs.Words.{first_number, is_getting, is_of}
-use Rattle.written_kernel.specs.Leaving.{bind_first}
-use Rattle.written_kernel.specs.Types.{Call, Door, Name, Obj, Parked, Pool, Process, Thread, ThreadState}
-use Rattle.written_kernel.proofs.Threads.{begun_thread-case, left_thread_of-same, thread_at-begin_process}
-use Rattle.kernel_invariant.specs.Core.{is_outside}
-use Rattle.thread_set.specs.declared.set.ThreadSet.{ThreadSet}
-use Rattle.thread_set.specs.Words.{has, with_thread}
+use Rattle.spec_kernel.specs.Leaving.{bind_first}
+use Rattle.spec_kernel.specs.Types.{Call, Door, Name, Obj, Parked, Pool, Process, Thread, ThreadState}
+use Rattle.spec_kernel.proofs.Threads.{begun_thread-case, left_thread_of-same, thread_at-begin_process}
+use Rattle.law_states.specs.Core.{is_outside}
+use Rattle.dk_base.specs.declared.thread_set.ThreadSet.{ThreadSet}
+use Rattle.dk_base.specs.Words.{has, with_thread}
 use Rattle.server_pool.specs.Words.{PoolsValue, change_at_number, change_item, change_spares, is_another_spare, is_thread, spares_or_none, stack_in, without_spare}
 use Rattle.server_pool.proofs.Changed.{changed_elsewhere, changed_here}
 use Rattle.fork_step.specs.Forking.{bind_lost_first, bindings_of_child}
-use Rattle.pool_agreement.specs.Words.{Agrees, spare_at, spare_in, spares_among}
-use Rattle.pool_agreement.proofs.Beginning.{agrees_begin}
-use Rattle.pool_agreement.proofs.Beginning.{stays_spare as is_left}
-use Rattle.pool_agreement.proofs.Readers.{length-change_at_number, same_number}
-use Rattle.pool_agreement.proofs.Stacks.{agrees_bind, not_parked}
-use Rattle.call_agreement.specs.Words.{AreBacked}
-use Rattle.call_agreement.proofs.Backing.{processes_changed}
-use Rattle.call_agreement.proofs.Free.{serves_not}
+use Rattle.law_pools.specs.Words.{Agrees, spare_at, spare_in, spares_among}
+use Rattle.law_pools.proofs.Beginning.{agrees_begin}
+use Rattle.law_pools.proofs.Beginning.{stays_spare as is_left}
+use Rattle.law_pools.proofs.Readers.{length-change_at_number, same_number}
+use Rattle.law_pools.proofs.Stacks.{agrees_bind, not_parked}
+use Rattle.law_calls.specs.Words.{AreBacked}
+use Rattle.law_calls.proofs.Backing.{processes_changed}
+use Rattle.law_calls.proofs.Free.{serves_not}
 use Rattle.kernel_store.specs.Forking.{stays_spare}
 use Rattle.kernel_store.specs.Turning.{KnowsPaths, KnowsPortsIn}
 use Rattle.kernel_store.proofs.Knowing.{knows_fewer}

@@ -3,21 +3,21 @@ use Rattle.std.proofs.Common.{◌≡◌, ◌⊎◌, inl, inr, ℕ, suc, ◌&&◌
 use Rattle.std.proofs.lemmas.Bool.Decides.{nat_tests}
 use Rattle.dk_base.specs.ByNumber.{at_number}
 use Rattle.dk_base.specs.declared.object.Item.TheVariants as item
-use Rattle.kernel_records.specs.Words.{ProcessTable, give_call, give_notice, give_thread, is_idle, is_pool, is_queued, is_queued_as, is_queued_in, pool_in, waiting_call, state_in, thread_at}
-use Rattle.written_kernel.specs.Types.{Call, Door, Item, Parked, Pool, Waiting}
-use Rattle.written_kernel.specs.Words.{give, give_one}
+use Rattle.spec_records.specs.Words.{ProcessTable, give_call, give_notice, give_thread, is_idle, is_pool, is_queued, is_queued_as, is_queued_in, pool_in, waiting_call, state_in, thread_at}
+use Rattle.spec_kernel.specs.Types.{Call, Door, Item, Parked, Pool, Waiting}
+use Rattle.spec_kernel.specs.Words.{give, give_one}
 use Rattle.server_pool.specs.declared.facts.Match.{Match}
 use Rattle.server_pool.specs.Words.{PoolsValue, change_pool, first_match, is_call, is_waiting_call, match_in, match_of, next_of, pick_of, queue_in, stack_in}
 use Rattle.call_tree.specs.Words.{CallsValue}
 use Rattle.unref_notice.specs.Words.{NoticesValue}
-use Rattle.pool_agreement.specs.Words.{Agrees, IsGivenOutIn, waiting_in}
-use Rattle.pool_agreement.proofs.GivingFirst.{give_first}
-use Rattle.pool_agreement.proofs.Noticing.{agrees_give_notice}
-use Rattle.pool_agreement.proofs.Queues.{agrees_give}
-use Rattle.pool_agreement.proofs.Readers.{bindings-change_pool, is_pool-self, queue-change_other, queue-change_same, stack-change_other}
-use Rattle.pool_agreement.proofs.Settling.{none_picked}
-use Rattle.pool_agreement.proofs.WaitingLists.{first_passes}
-use Rattle.pool_agreement.proofs.Stacks.{given_is_idle, given_pool_there}
+use Rattle.law_pools.specs.Words.{Agrees, IsGivenOutIn, waiting_in}
+use Rattle.law_pools.proofs.GivingFirst.{give_first}
+use Rattle.law_pools.proofs.Noticing.{agrees_give_notice}
+use Rattle.law_pools.proofs.Queues.{agrees_give}
+use Rattle.law_pools.proofs.Readers.{bindings-change_pool, is_pool-self, queue-change_other, queue-change_same, stack-change_other}
+use Rattle.law_pools.proofs.Settling.{none_picked}
+use Rattle.law_pools.proofs.WaitingLists.{first_passes}
+use Rattle.law_pools.proofs.Stacks.{given_is_idle, given_pool_there}
 use Rattle.kernel_store.specs.Giving.{GivesOn, HasGiven, IsGiving}
 use Rattle.kernel_store.specs.Stored.{IsAgreed, StoreValue, stored_state}
 

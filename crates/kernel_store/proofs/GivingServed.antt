@@ -2,20 +2,20 @@
 use Rattle.std.proofs.Common.{◌≡◌, inl, inr, ℕ, ◌+◌, ◌<◌, ◌==◌, ◌∷◌, ◌||◌, ◌&&◌, add-one, drop, if◌then◌else◌, length, Bool, true, false, not, is_none, is_some, List, [], Option, None, Some, refl, sym, subst, ap, ap₂, ⊎_elim, ◌∙◌, true≢false}
 use Rattle.std.proofs.Math.ListN.{get_or}
 use Rattle.std.proofs.Math.Seq.{drop-cons}
-use Rattle.kernel_records.specs.declared.pool.Pool.TheVariants.{Common}
-use Rattle.kernel_records.specs.Words.{bound_at, is_pool, pid, process_in, thread_at}
-use Rattle.written_kernel.specs.Types.{Parked, Pool}
-use Rattle.written_kernel.specs.Words.{State, fail_returns, give, give_and_start, has_first_common_door, has_given_last, pick, pool_of}
-use Rattle.written_kernel.proofs.Giving.{same_pool}
-use Rattle.thread_set.specs.declared.set.ThreadSet.{ThreadSet}
-use Rattle.thread_set.specs.Words.{has, with_thread}
+use Rattle.spec_records.specs.declared.pool.Pool.TheVariants.{Common}
+use Rattle.spec_records.specs.Words.{bound_at, is_pool, pid, process_in, thread_at}
+use Rattle.spec_kernel.specs.Types.{Parked, Pool}
+use Rattle.spec_kernel.specs.Words.{State, fail_returns, give, give_and_start, has_first_common_door, has_given_last, pick, pool_of}
+use Rattle.spec_kernel.proofs.Giving.{same_pool}
+use Rattle.dk_base.specs.declared.thread_set.ThreadSet.{ThreadSet}
+use Rattle.dk_base.specs.Words.{has, with_thread}
 use Rattle.server_pool.specs.Words.{PoolsValue, pick_of, stack_in}
-use Rattle.pool_agreement.specs.Words.{IsGivenOut, IsGivenOutIn, IsParkedIn, is_this, own_pool, pool_by}
-use Rattle.pool_agreement.proofs.Readers.{is_pool-sym, same_number}
-use Rattle.pool_agreement.proofs.Unparking.{parked_in_own}
-use Rattle.pool_agreement.proofs.GivingFirst.{given_out_gives_nothing}
-use Rattle.pool_agreement.proofs.Settling.{doors-give}
-use Rattle.pool_agreement.proofs.Stacks.{pick_agrees}
+use Rattle.law_pools.specs.Words.{IsGivenOut, IsGivenOutIn, IsParkedIn, is_this, own_pool, pool_by}
+use Rattle.law_pools.proofs.Readers.{is_pool-sym, same_number}
+use Rattle.law_pools.proofs.Unparking.{parked_in_own}
+use Rattle.law_pools.proofs.GivingFirst.{given_out_gives_nothing}
+use Rattle.law_pools.proofs.Settling.{doors-give}
+use Rattle.law_pools.proofs.Stacks.{pick_agrees}
 use Rattle.kernel_store.specs.Frames.{AreIn, IsGivenOutToOthers, serves_any}
 use Rattle.kernel_store.specs.Giving.{HasGiven, IsServed, IsTold, start_meant}
 use Rattle.kernel_store.specs.Stored.{IsAgreed, StoreValue, stored_state}

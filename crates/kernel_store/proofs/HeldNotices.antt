@@ -5,11 +5,11 @@ use Rattle.std.proofs.lemmas.List.Folds.{list_any-append}
 use Rattle.std.specs.List.{list_any}
 use Rattle.dk_base.specs.declared.number.Tid.{Tid}
 use Rattle.dk_base.specs.declared.object.Item.TheVariants as item
-use Rattle.kernel_records.specs.declared.record.NoticeStage.TheVariants as notice
-use Rattle.kernel_records.specs.declared.leaving.Leaver.TheVariants.{Ended}
-use Rattle.kernel_records.specs.Words.{Leaving, ProcessTable, is_entered_stage, is_given_stage, is_waiting_stage, left_notice, left_notice_at, invocation_in, leaving_of, process_end, process_in, state_in, thread_at}
-use Rattle.kernel_records.proofs.Lists.{numbered_within}
-use Rattle.written_kernel.specs.Types.{Door, Item, Notice, NoticeStage, Thread}
+use Rattle.spec_records.specs.declared.record.NoticeStage.TheVariants as notice
+use Rattle.spec_records.specs.declared.leaving.Leaver.TheVariants.{Ended}
+use Rattle.spec_records.specs.Words.{Leaving, ProcessTable, is_entered_stage, is_given_stage, is_waiting_stage, left_notice, left_notice_at, invocation_in, leaving_of, process_end, process_in, state_in, thread_at}
+use Rattle.spec_records.proofs.Lists.{numbered_within}
+use Rattle.spec_kernel.specs.Types.{Door, Item, Notice, NoticeStage, Thread}
 use Rattle.server_pool.specs.Words.{is_item}
 use Rattle.exit_paths.specs.Words.{TellsUntaken}
 use Rattle.unref_notice.specs.Words.{AreAllLeft, IsAllEntered, is_notice_item}

@@ -1,8 +1,8 @@
 -- Room for items: what a change of one pool leaves of it, and what notices take of it.
 use Rattle.std.proofs.Common.{◌≡◌, ℕ, ◌+◌, ◌≤◌, Bool, true, false, if◌then◌else◌, List, [], ◌∷◌, Option, Some, None, option_map, is_some, length, length-append, count_by, filter, refl, sym, ap, ◌∙◌, subst, arith}
 use Rattle.std.proofs.lemmas.List.Sums.{length-filter}
-use Rattle.kernel_records.specs.Words.{is_pool}
-use Rattle.written_kernel.specs.Types.{Pool, Waiting}
+use Rattle.spec_records.specs.Words.{is_pool}
+use Rattle.spec_kernel.specs.Types.{Pool, Waiting}
 use Rattle.server_pool.specs.Words.{PoolValue, PoolsValue, change_pool, enqueue_in, item_room_in, pool_at, pool_or_empty}
 use Rattle.server_pool.proofs.Changed.{pool_changed, pool_kept}
 

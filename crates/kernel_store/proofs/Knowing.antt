@@ -4,15 +4,15 @@ use Rattle.std.proofs.lemmas.Bool.{cases_eq}
 use Rattle.std.proofs.lemmas.Bool.Decides.{nat_tests}
 use Rattle.dk_base.specs.ByNumber.{at_number}
 use Rattle.dk_base.specs.declared.number.PathId.{PathId}
-use Rattle.kernel_records.specs.declared.record.ThreadState.TheVariants as is
-use Rattle.kernel_records.specs.declared.record.CallStage.TheVariants as stage
-use Rattle.kernel_records.specs.Words.{Leaving, ProcessTable, change_thread, deserted_at, deserted_in, end_process, idle_thread, interrupted_state, interrupted_where, is_left, is_served_by, left_thread, left_thread_of, left_threads, name_in, set_thread_state, state_in, thread_at, thread_at_state, thread_in_invocation, thread_outside}
-use Rattle.kernel_records.proofs.Lists.{at_number-map, at_number-push}
-use Rattle.written_kernel.specs.Types.{Call, CallStage, Item, Name, Thread, ThreadState}
-use Rattle.call_agreement.proofs.Free.{changed_elsewhere, changed_here}
-use Rattle.written_kernel.proofs.Threads.{thread_at-change_thread, thread_at-end_process}
-use Rattle.thread_set.specs.declared.set.ThreadSet.{ThreadSet}
-use Rattle.thread_set.specs.Words.{has, with_thread}
+use Rattle.spec_records.specs.declared.record.ThreadState.TheVariants as is
+use Rattle.spec_records.specs.declared.record.CallStage.TheVariants as stage
+use Rattle.spec_records.specs.Words.{Leaving, ProcessTable, change_thread, deserted_at, deserted_in, end_process, idle_thread, interrupted_state, interrupted_where, is_left, is_served_by, left_thread, left_thread_of, left_threads, name_in, set_thread_state, state_in, thread_at, thread_at_state, thread_in_invocation, thread_outside}
+use Rattle.spec_records.proofs.Lists.{at_number-map, at_number-push}
+use Rattle.spec_kernel.specs.Types.{Call, CallStage, Item, Name, Thread, ThreadState}
+use Rattle.law_calls.proofs.Free.{changed_elsewhere, changed_here}
+use Rattle.spec_kernel.proofs.Threads.{thread_at-change_thread, thread_at-end_process}
+use Rattle.dk_base.specs.declared.thread_set.ThreadSet.{ThreadSet}
+use Rattle.dk_base.specs.Words.{has, with_thread}
 use Rattle.kernel_store.specs.Turning.{KnowsPaths, is_found_at}
 
 -- a change after which a thread waits for no path that it did not wait for

@@ -6,20 +6,20 @@ use Rattle.std.proofs.lemmas.List.Elements.{All-map}
 use Rattle.dk_base.specs.ByNumber.{at_number}
 use Rattle.dk_base.specs.declared.limits.TheConstants.{THREADS_MAX}
 use Rattle.dk_base.specs.declared.number.Tid.{Tid}
-use Rattle.kernel_records.specs.Words.{CallTree, Leaving, NoticeList, ProcessTable, bound_at, is_idle, is_pool, is_queued, is_queued_in, is_waiting_stage, kept_notices, left_call, left_calls, left_notice, left_notices, left_threads, live_calls, numbers_where, pool_in, process_in, state_in, thread_at, tid, waiting_call, waiting_notice}
-use Rattle.kernel_records.proofs.DoorNumbers.{all-numbers_where, there-numbers_where}
-use Rattle.kernel_records.proofs.Lists.{numbered_within}
-use Rattle.written_kernel.specs.Types.{Call, Door, Notice, Parked, Pool, Thread, Waiting}
-use Rattle.thread_set.specs.declared.set.ThreadSet.{ThreadSet}
-use Rattle.thread_set.specs.Words.{has}
+use Rattle.spec_records.specs.Words.{CallTree, Leaving, NoticeList, ProcessTable, bound_at, is_idle, is_pool, is_queued, is_queued_in, is_waiting_stage, kept_notices, left_call, left_calls, left_notice, left_notices, left_threads, live_calls, numbers_where, pool_in, process_in, state_in, thread_at, tid, waiting_call, waiting_notice}
+use Rattle.dk_base.proofs.NumbersWhere.{all-numbers_where, there-numbers_where}
+use Rattle.spec_records.proofs.Lists.{numbered_within}
+use Rattle.spec_kernel.specs.Types.{Call, Door, Notice, Parked, Pool, Thread, Waiting}
+use Rattle.dk_base.specs.declared.thread_set.ThreadSet.{ThreadSet}
+use Rattle.dk_base.specs.Words.{has}
 use Rattle.server_pool.specs.Words.{PoolsValue, is_waiting_call, queue_in, stack_in}
-use Rattle.written_kernel.proofs.Giving.{same_pool}
-use Rattle.pool_agreement.specs.Words.{Agrees, IsGivenOut, IsListed, IsParkedIn, is_notice_waiting, is_waiting_notice_in, leaves_queue, notice_leaves_queue, pool_by, waiting_in}
-use Rattle.pool_agreement.proofs.LeavingPools.{IsParkedSomewhere, idle_is_parked}
-use Rattle.pool_agreement.proofs.Noticed.{waiting_kept}
-use Rattle.pool_agreement.proofs.Queues.{waiting_live}
-use Rattle.pool_agreement.proofs.Stacks.{not_parked}
-use Rattle.pool_agreement.proofs.Unparking.{parked_in_own}
+use Rattle.spec_kernel.proofs.Giving.{same_pool}
+use Rattle.law_pools.specs.Words.{Agrees, IsGivenOut, IsListed, IsParkedIn, is_notice_waiting, is_waiting_notice_in, leaves_queue, notice_leaves_queue, pool_by, waiting_in}
+use Rattle.law_pools.proofs.LeavingPools.{IsParkedSomewhere, idle_is_parked}
+use Rattle.law_pools.proofs.Noticed.{waiting_kept}
+use Rattle.law_pools.proofs.Queues.{waiting_live}
+use Rattle.law_pools.proofs.Stacks.{not_parked}
+use Rattle.law_pools.proofs.Unparking.{parked_in_own}
 use Rattle.exit_paths.specs.Words.{became_idle, is_idle_at, threads_where}
 use Rattle.exit_paths.proofs.LeftThreads.{process_kept}
 use Rattle.kernel_store.specs.Frames.{AreIn, IsGivenOutToOthers}

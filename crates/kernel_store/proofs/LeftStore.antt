@@ -3,16 +3,16 @@ use Rattle.std.proofs.Common.{◌≡◌, ℕ, ◌+◌, ◌<◌, ◌≤◌, ◌==
 use Rattle.std.proofs.Math.Path.{fun_ext}
 use Rattle.dk_base.specs.ByNumber.{at_number}
 use Rattle.dk_base.specs.declared.object.Item.{Item}
-use Rattle.kernel_records.specs.declared.leaving.Leaver.{Leaver}
-use Rattle.kernel_records.specs.declared.leaving.Leaver.TheVariants.{Interrupted, Ended, EndedProcess, Revoked, Forked}
-use Rattle.kernel_records.specs.declared.record.NoticeStage.TheVariants as notice
-use Rattle.kernel_records.specs.Words.{CallTree, Leaving, NoticeList, ProcessTable, is_owned_by, leaving_of, left_notice, left_notice_at, left_notices, left_threads, parked_at}
-use Rattle.written_kernel.specs.Types.{Call, Door, Notice, NoticeStage, Parked}
+use Rattle.spec_records.specs.declared.leaving.Leaver.{Leaver}
+use Rattle.spec_records.specs.declared.leaving.Leaver.TheVariants.{Interrupted, Ended, EndedProcess, Revoked, Forked}
+use Rattle.spec_records.specs.declared.record.NoticeStage.TheVariants as notice
+use Rattle.spec_records.specs.Words.{CallTree, Leaving, NoticeList, ProcessTable, is_owned_by, leaving_of, left_notice, left_notice_at, left_notices, left_threads, parked_at}
+use Rattle.spec_kernel.specs.Types.{Call, Door, Notice, NoticeStage, Parked}
 use Rattle.unref_notice.specs.Words.{AreAllLeft}
 use Rattle.exit_paths.proofs.LeftThreads.{process_kept}
 use Rattle.server_pool.specs.Words.{PoolsValue, stack_in}
-use Rattle.pool_agreement.specs.Words.{Agrees, IsListed}
-use Rattle.pool_agreement.proofs.Readers.{is_pool-self}
+use Rattle.law_pools.specs.Words.{Agrees, IsListed}
+use Rattle.law_pools.proofs.Readers.{is_pool-self}
 use Rattle.kernel_store.specs.Stored.{IsAgreed, StoreValue}
 
 -- no thread parked later than the latest

@@ -1,8 +1,8 @@
 -- What the exit paths need of a process that ends: it is there, and its valid doors are those at which something waits.
 use Rattle.std.proofs.Common.{◌≡◌, ℕ, List, sym, subst}
-use Rattle.kernel_records.specs.declared.leaving.Leaver.{Leaver}
-use Rattle.kernel_records.specs.declared.leaving.Leaver.TheVariants.{Interrupted, Ended, EndedProcess, Revoked, Forked}
-use Rattle.kernel_records.specs.Words.{AreNumbered, process_end}
+use Rattle.spec_records.specs.declared.leaving.Leaver.{Leaver}
+use Rattle.spec_records.specs.declared.leaving.Leaver.TheVariants.{Interrupted, Ended, EndedProcess, Revoked, Forked}
+use Rattle.spec_records.specs.Words.{AreNumbered, process_end}
 use Rattle.exit_paths.specs.Words.{AreLost}
 use Rattle.exit_paths.proofs.Owned.{owned_lost}
 use Rattle.kernel_holdings.specs.Words.{CanEnd}

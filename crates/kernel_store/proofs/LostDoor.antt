@@ -2,13 +2,13 @@
 use Rattle.std.proofs.Common.{◌≡◌, ℕ, zero, suc, Bool, true, false, List, [], ◌∷◌, Some, IsSome, if◌then◌else◌, find, slice_get, true≢false, refl, sym, ap, ◌∙◌, arith}
 use Rattle.std.proofs.lemmas.Bool.Decides.{nat_tests}
 use Rattle.dk_base.specs.declared.number.Tid.{Tid}
-use Rattle.kernel_records.specs.declared.pool.TheConstants.{LOST_DOOR}
-use Rattle.kernel_records.specs.declared.record.CallStage.TheVariants as stage
-use Rattle.kernel_records.specs.Words.{is_given_as}
-use Rattle.kernel_records.proofs.NumberedLists.{find-passes}
-use Rattle.written_kernel.specs.Types.{Call, CallStage}
-use Rattle.written_kernel.specs.Words.{State, bound_of, has_invalid_door, is_bound_to_invalid}
-use Rattle.call_agreement.proofs.Backing.{some_call}
+use Rattle.spec_records.specs.declared.pool.TheConstants.{LOST_DOOR}
+use Rattle.spec_records.specs.declared.record.CallStage.TheVariants as stage
+use Rattle.spec_records.specs.Words.{is_given_as}
+use Rattle.spec_records.proofs.NumberedLists.{find-passes}
+use Rattle.spec_kernel.specs.Types.{Call, CallStage}
+use Rattle.spec_kernel.specs.Words.{State, bound_of, has_invalid_door, is_bound_to_invalid}
+use Rattle.law_calls.proofs.Backing.{some_call}
 use Rattle.kernel_store.specs.Stored.{ArePlaced}
 
 -- that door is not valid

@@ -3,12 +3,12 @@ use Rattle.std.proofs.Common.{◌≡◌, inl, inr, refl, Some, ℕ, ◌<◌, ◌
 use Rattle.std.proofs.lemmas.Bool.Decides.{nat_tests}
 use Rattle.dk_base.specs.ByNumber.{at_number}
 use Rattle.dk_base.specs.declared.limits.TheConstants.{QUEUE_MAX}
-use Rattle.kernel_records.specs.Words.{CallTree, NoticeList, is_pool, is_valid_in, pool_in, ProcessTable}
-use Rattle.written_kernel.specs.Types.{Door, Pool}
+use Rattle.spec_records.specs.Words.{CallTree, NoticeList, is_pool, is_valid_in, pool_in, ProcessTable}
+use Rattle.spec_kernel.specs.Types.{Door, Pool}
 use Rattle.server_pool.specs.Words.{PoolValue, PoolsValue, change_pool, pool_at}
-use Rattle.pool_agreement.specs.Words.{Agrees, HasPlaces, IsGivenOutIn}
-use Rattle.pool_agreement.proofs.Queues.{door_pool_there}
-use Rattle.pool_agreement.proofs.Readers.{queue-change_other, stack-change_other}
+use Rattle.law_pools.specs.Words.{Agrees, HasPlaces, IsGivenOutIn}
+use Rattle.law_pools.proofs.Queues.{door_pool_there}
+use Rattle.law_pools.proofs.Readers.{queue-change_other, stack-change_other}
 
 -- the pool of a valid door
 pub served_there :

@@ -2,20 +2,20 @@
 use Rattle.std.proofs.Common.{◌≡◌, inl, inr, ⊎_elim, true≢false, ℕ, ◌+◌, ◌<◌, ◌≤◌, Bool, true, false, ◌||◌, if◌then◌else◌, List, ◌∷◌, count_by, is_some, length, refl, sym, ap, ◌∙◌, subst, arith}
 use Rattle.dk_base.specs.ByNumber.{at_number}
 use Rattle.dk_base.specs.Words.{RoomValue}
-use Rattle.kernel_records.specs.Words.{is_pool, pool_in}
-use Rattle.written_kernel.specs.Types.{Door, Pool, Waiting}
-use Rattle.written_kernel.specs.Words.{pool_of}
+use Rattle.spec_records.specs.Words.{is_pool, pool_in}
+use Rattle.spec_kernel.specs.Types.{Door, Pool, Waiting}
+use Rattle.spec_kernel.specs.Words.{pool_of}
 use Rattle.server_pool.specs.Words.{change_pool, enqueue_in, item_room_in, pool_at}
 use Rattle.unref_notice.specs.declared.notices.TheConstants.{NOTICES_MAX}
-use Rattle.pool_agreement.proofs.Readers.{is_pool-self, is_pool-sym}
-use Rattle.written_kernel.specs.Words.{has_lost_door}
-use Rattle.written_kernel.proofs.Giving.{same_pool}
+use Rattle.law_pools.proofs.Readers.{is_pool-self, is_pool-sym}
+use Rattle.spec_kernel.specs.Words.{has_lost_door}
+use Rattle.spec_kernel.proofs.Giving.{same_pool}
 use Rattle.server_pool.specs.Words.{PoolsValue}
 use Rattle.unref_notice.specs.Words.{NoticesValue}
-use Rattle.thread_set.specs.declared.set.ThreadSet.{ThreadSet}
-use Rattle.thread_set.specs.Words.{has}
-use Rattle.pool_agreement.specs.Words.{own_pool}
-use Rattle.pool_agreement.proofs.Readers.{bindings-change_pool, queue-change_other, stack-change_other}
+use Rattle.dk_base.specs.declared.thread_set.ThreadSet.{ThreadSet}
+use Rattle.dk_base.specs.Words.{has}
+use Rattle.law_pools.specs.Words.{own_pool}
+use Rattle.law_pools.proofs.Readers.{bindings-change_pool, queue-change_other, stack-change_other}
 use Rattle.kernel_store.specs.Frames.{AreIn, CanSettle, IsGivenOutToOthers, serves_any}
 use Rattle.kernel_store.specs.Stored.{CanMake, StoreValue, count_served, stored_state}
 use Rattle.kernel_store.proofs.ItemRoom.{count_cons, room_elsewhere, room_enqueued, there_changed}

@@ -5,24 +5,24 @@ use Rattle.std.specs.Option.{option_to_list}
 use Rattle.std.proofs.lemmas.Bool.Decides.{nat_tests}
 use Rattle.std.proofs.lemmas.List.Elements.{All-weaker}
 use Rattle.std.proofs.lemmas.Nat.{and_le_l}
-use Rattle.act_changes.specs.Changed.{changed_objects, is_gone, readied}
-use Rattle.act_changes.specs.Closed.{Closing}
-use Rattle.act_changes.specs.Ended.{empty_rows, ended_by, timers_ended}
-use Rattle.act_changes.specs.Ends.{is_end}
-use Rattle.act_changes.specs.Ends.{other_end as other}
-use Rattle.act_changes.specs.Told.{LeavesToTell}
-use Rattle.act_changes.proofs.Told.{leaves_to_tell}
+use Rattle.law_channels.specs.Changed.{changed_objects, is_gone, readied}
+use Rattle.law_channels.specs.Closed.{Closing}
+use Rattle.law_channels.specs.Ended.{empty_rows, ended_by, timers_ended}
+use Rattle.law_channels.specs.Ends.{is_end}
+use Rattle.law_channels.specs.Ends.{other_end as other}
+use Rattle.law_channels.specs.Told.{LeavesToTell}
+use Rattle.law_channels.proofs.Told.{leaves_to_tell}
 use Rattle.kernel_store.specs.declared.told.ClosedRows.{ClosedRows}
 use Rattle.dk_base.specs.declared.object.Obj.TheVariants as obj
-use Rattle.kernel_records.specs.declared.association.Association.{Association}
-use Rattle.kernel_records.specs.Words.{Pipe, is_object, is_to_fire, is_told, ready_object, watches}
+use Rattle.spec_records.specs.declared.association.Association.{Association}
+use Rattle.spec_records.specs.Words.{Pipe, is_object, is_to_fire, is_told, ready_object, watches}
 use Rattle.kernel_store.specs.Telling.{AreGone, AreNamed, IsLeftToTell, ReadiesAtMost, closing_of, is_named, is_of_pipe}
 use Rattle.port_assoc.proofs.Watching.{one_object}
-use Rattle.port_telling.proofs.Others.{is_other_of, others_among}
-use Rattle.port_telling.specs.Words.{other_end}
+use Rattle.kernel_ports.proofs.Others.{is_other_of, others_among}
+use Rattle.kernel_ports.specs.Words.{other_end}
 use Rattle.unref_notice.specs.Words.{ObjectCounts, count_of, is_pipe_end}
-use Rattle.written_kernel.specs.Types.{Obj, Request}
-use Rattle.written_kernel.specs.Words.{State, associations_in, end_lost, end_timers, ready_at, references_of, with_channels}
+use Rattle.spec_kernel.specs.Types.{Obj, Request}
+use Rattle.spec_kernel.specs.Words.{State, associations_in, end_lost, end_timers, ready_at, references_of, with_channels}
 
 same_other : (o : Obj) → other o ≡ other_end o
 same_other (obj.Door n) = refl

@@ -1,9 +1,9 @@
 -- Pools where something waits for some threads alone.
 use Rattle.std.proofs.Common.{◌≡◌, ℕ, ⊎_elim, inl, inr, [], Some, slice_get, sym, ap, true≢false, ◌∙◌}
-use Rattle.written_kernel.specs.Types.{Parked, Pool}
-use Rattle.thread_set.specs.declared.set.ThreadSet.{ThreadSet}
+use Rattle.spec_kernel.specs.Types.{Parked, Pool}
+use Rattle.dk_base.specs.declared.thread_set.ThreadSet.{ThreadSet}
 use Rattle.server_pool.specs.Words.{PoolsValue}
-use Rattle.pool_agreement.specs.Words.{IsGivenOutIn}
+use Rattle.law_pools.specs.Words.{IsGivenOutIn}
 use Rattle.kernel_store.specs.Frames.{IsGivenOutToOthers, ParksAgain}
 use Rattle.kernel_store.specs.Stored.{StoreValue}
 

@@ -1,11 +1,11 @@
 -- A thread that parks at the present event, at which none parked yet.
 use Rattle.std.proofs.Common.{◌≡◌, ◌<◌, ◌≤◌, ◌+◌, ℕ, Bool, true, false, Option, None, Some, option_map, is_some, refl, sym, subst, ap, ◌∙◌, arith}
-use Rattle.kernel_records.specs.declared.pool.TheConstants.{LOST_DOOR}
-use Rattle.kernel_records.specs.Words.{is_done, is_dormant, is_idle, is_pool, park_thread, tid}
-use Rattle.written_kernel.specs.Types.{Parked, Pool}
-use Rattle.written_kernel.specs.Words.{bound_of, state_of}
+use Rattle.spec_records.specs.declared.pool.TheConstants.{LOST_DOOR}
+use Rattle.spec_records.specs.Words.{is_done, is_dormant, is_idle, is_pool, park_thread, tid}
+use Rattle.spec_kernel.specs.Types.{Parked, Pool}
+use Rattle.spec_kernel.specs.Words.{bound_of, state_of}
 use Rattle.server_pool.specs.Words.{PoolValue, PoolsValue, change_pool, item_room_in, park_in, pool_at, pool_or_empty, thread_room_in}
-use Rattle.pool_agreement.specs.Words.{Agrees, IsGivenOut, IsGivenOutBut, own_pool}
+use Rattle.law_pools.specs.Words.{Agrees, IsGivenOut, IsGivenOutBut, own_pool}
 use Rattle.kernel_store.specs.Frames.{CanAct, FillsOnePool}
 use Rattle.exit_paths.specs.Words.{CanParkAgain, own_pool_in}
 use Rattle.kernel_store.specs.Stored.{IsAgreed, StoreValue, stored_state}

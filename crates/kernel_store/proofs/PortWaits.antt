@@ -4,17 +4,17 @@ use Rattle.std.proofs.lemmas.Bool.{cases_eq}
 use Rattle.std.proofs.lemmas.Bool.Decides.{nat_tests}
 use Rattle.dk_base.specs.ByNumber.{at_number}
 use Rattle.dk_base.specs.declared.object.Obj.TheVariants as obj
-use Rattle.kernel_records.specs.declared.record.ThreadState.TheVariants as is
-use Rattle.kernel_records.specs.declared.association.AssocKey.{AssocKey}
-use Rattle.kernel_records.specs.declared.association.Association.{Association}
-use Rattle.kernel_records.specs.declared.timer.Timer.{Timer}
-use Rattle.associated_ports.specs.Words.{port_told}
-use Rattle.kernel_records.specs.Words.{Port, ProcessTable, change_at_number, change_found, count_object, has_key, is_ready_for, make_port, new_port, port_in, port_of, send_error, send_event, send_if_allowed, state_in, thread_at, user_event, with_event, withdraw_event, withdraw_events, without_event, without_queued, without_timer_event}
-use Rattle.kernel_records.proofs.Lists.{at_number-push, at_number-renumbered_there}
-use Rattle.written_kernel.specs.Types.{ThreadState}
+use Rattle.spec_records.specs.declared.record.ThreadState.TheVariants as is
+use Rattle.spec_records.specs.declared.association.AssocKey.{AssocKey}
+use Rattle.spec_records.specs.declared.association.Association.{Association}
+use Rattle.spec_records.specs.declared.timer.Timer.{Timer}
+use Rattle.kernel_ports.specs.Words.{port_told}
+use Rattle.spec_records.specs.Words.{Port, ProcessTable, change_at_number, change_found, count_object, has_key, is_ready_for, make_port, new_port, port_in, port_of, send_error, send_event, send_if_allowed, state_in, thread_at, user_event, with_event, withdraw_event, withdraw_events, without_event, without_queued, without_timer_event}
+use Rattle.spec_records.proofs.Lists.{at_number-push, at_number-renumbered_there}
+use Rattle.spec_kernel.specs.Types.{ThreadState}
 use Rattle.proc_table.specs.Words.{is_getting}
-use Rattle.thread_set.specs.declared.set.ThreadSet.{ThreadSet}
-use Rattle.thread_set.specs.Words.{has, with_thread}
+use Rattle.dk_base.specs.declared.thread_set.ThreadSet.{ThreadSet}
+use Rattle.dk_base.specs.Words.{has, with_thread}
 use Rattle.kernel_holdings.specs.Words.{HoldingsValue, references_of}
 use Rattle.kernel_store.specs.Turning.{IsSamePort, KnowsPorts, has_ended_at, waits_at}
 

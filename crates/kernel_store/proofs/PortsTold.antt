@@ -2,20 +2,20 @@
 use Rattle.std.proofs.Common.{◌≡◌, ℕ, ◌||◌, Bool, true, false, if◌then◌else◌, List, [], ◌∷◌, Option, None, Some, All, filter, length, refl, sym, ap, ap₂, ◌∙◌}
 use Rattle.std.specs.List.{list_any}
 use Rattle.std.proofs.lemmas.List.Elements.{All-weaker}
-use Rattle.act_changes.specs.Ended.{empty_rows, ended_by, row_ended, rows_ended, timers_ended}
-use Rattle.associated_ports.specs.Words.{AssociatedPortsValue}
-use Rattle.kernel_records.specs.declared.association.Association.{Association}
-use Rattle.kernel_records.specs.declared.timer.Due.{Due}
-use Rattle.kernel_records.specs.Words.{AssociationList, Port, all_fired, fire_all, is_object, is_to_fire, post_fired, ready_object, tell_dues}
+use Rattle.law_channels.specs.Ended.{empty_rows, ended_by, row_ended, rows_ended, timers_ended}
+use Rattle.kernel_ports.specs.Words.{AssociatedPortsValue}
+use Rattle.spec_records.specs.declared.association.Association.{Association}
+use Rattle.spec_records.specs.declared.timer.Due.{Due}
+use Rattle.spec_records.specs.Words.{AssociationList, Port, all_fired, fire_all, is_object, is_to_fire, post_fired, ready_object, tell_dues}
 use Rattle.kernel_store.specs.declared.told.ClosedRows.{ClosedRows}
 use Rattle.kernel_store.specs.declared.told.ClosedRows.TheVariants as closed
 use Rattle.kernel_store.specs.Stored.{StoreValue, stored_state}
 use Rattle.kernel_store.specs.Telling.{AreNamed, IsOfPipe, channels_in, closing_of, ended_in, is_empty_in, is_named, is_nothing}
-use Rattle.port_telling.specs.declared.changed.Ends.{Ends}
-use Rattle.port_telling.specs.Words.{AreAllNamed, is_changed, other_end}
+use Rattle.kernel_ports.specs.declared.changed.Ends.{Ends}
+use Rattle.kernel_ports.specs.Words.{AreAllNamed, is_changed, other_end}
 use Rattle.timer_src.specs.Words.{TimersValue}
-use Rattle.written_kernel.specs.Types.{Fd, Obj}
-use Rattle.written_kernel.specs.Words.{Channels, State, associations_in, fire, ready_at, references_of, with_channels}
+use Rattle.spec_kernel.specs.Types.{Fd, Obj}
+use Rattle.spec_kernel.specs.Words.{Channels, State, associations_in, fire, ready_at, references_of, with_channels}
 
 -- rows that are closed
 

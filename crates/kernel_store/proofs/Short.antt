@@ -4,12 +4,12 @@ use Rattle.std.proofs.lemmas.Bool.Decides.{nat_tests}
 use Rattle.std.proofs.lemmas.List.Folds.{list_any-append}
 use Rattle.dk_base.specs.ByNumber.{at_number}
 use Rattle.dk_base.specs.declared.number.Pid.{Pid}
-use Rattle.kernel_records.specs.declared.pool.Pool.TheVariants.{Common, Private}
-use Rattle.kernel_records.specs.Words.{is_pool}
-use Rattle.kernel_records.proofs.Lists.{numbered_push, numbered_there, numbered_within}
-use Rattle.written_kernel.specs.Types.{Parked, Pool, Waiting}
+use Rattle.spec_records.specs.declared.pool.Pool.TheVariants.{Common, Private}
+use Rattle.spec_records.specs.Words.{is_pool}
+use Rattle.spec_records.proofs.Lists.{numbered_push, numbered_there, numbered_within}
+use Rattle.spec_kernel.specs.Types.{Parked, Pool, Waiting}
 use Rattle.server_pool.specs.Words.{PoolValue, PoolsValue, change_pool, empty_pool, enqueue_in, item_room_in, match_in, no_pools, park_in, pool_at}
-use Rattle.written_kernel.proofs.Giving.{same_pool}
+use Rattle.spec_kernel.proofs.Giving.{same_pool}
 use Rattle.exit_paths.specs.Words.{HasNoLessRoom}
 use Rattle.kernel_store.specs.Noticing.{HaveItemRoomBut, is_listed, items_for}
 use Rattle.kernel_store.proofs.Alike.{items_door, items_process}

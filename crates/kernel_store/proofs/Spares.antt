@@ -1,16 +1,16 @@
 -- Spares of a store start.
 use Rattle.std.proofs.Common.{◌≡◌, ℕ, ◌==◌, Bool, true, false, List, [], ◌∷◌, Option, None, Some, option_map, length, refl, sym, subst, ap, ap₂, ◌∙◌}
 use Rattle.dk_base.specs.ByNumber.{at_number}
-use Rattle.kernel_records.specs.declared.record.ThreadState.TheVariants as is
-use Rattle.kernel_records.specs.Words.{CallTree, NoticeList, ProcessTable, is_done, is_dormant, is_idle, set_thread_state, start_spare, state_in, thread_at}
-use Rattle.written_kernel.specs.Types.{Door, ThreadState}
-use Rattle.written_kernel.specs.Words.{start_one}
+use Rattle.spec_records.specs.declared.record.ThreadState.TheVariants as is
+use Rattle.spec_records.specs.Words.{CallTree, NoticeList, ProcessTable, is_done, is_dormant, is_idle, set_thread_state, start_spare, state_in, thread_at}
+use Rattle.spec_kernel.specs.Types.{Door, ThreadState}
+use Rattle.spec_kernel.specs.Words.{start_one}
 use Rattle.server_pool.specs.Words.{PoolsValue, change_spares, lowest_spare, spares_of, spares_or_none, without_lowest}
 use Rattle.server_pool.proofs.Changed.{changed_here}
-use Rattle.pool_agreement.specs.Words.{Agrees, IsGivenOut}
-use Rattle.pool_agreement.proofs.Readers.{length-change_at_number, same_number, spares-change_other}
-use Rattle.pool_agreement.proofs.Spares.{IsLowest, lowest_of, spare_dormant}
-use Rattle.pool_agreement.proofs.Starting.{agrees_start, no_spare, start_spare_is}
+use Rattle.law_pools.specs.Words.{Agrees, IsGivenOut}
+use Rattle.law_pools.proofs.Readers.{length-change_at_number, same_number, spares-change_other}
+use Rattle.law_pools.proofs.Spares.{IsLowest, lowest_of, spare_dormant}
+use Rattle.law_pools.proofs.Starting.{agrees_start, no_spare, start_spare_is}
 use Rattle.kernel_store.specs.Stored.{IsAgreed, StoreValue, stored_state}
 
 -- the lowest spare of a process starts

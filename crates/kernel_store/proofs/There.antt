@@ -5,10 +5,10 @@ use Rattle.std.proofs.lemmas.List.Sums.{sum_by-cons}
 use Rattle.std.specs.Prelude.{IfSome}
 use Rattle.dk_base.specs.ByNumber.{at_number}
 use Rattle.dk_base.specs.declared.object.Obj.TheVariants as obj
-use Rattle.kernel_records.specs.Words.{count_object, is_object}
-use Rattle.kernel_records.proofs.Lists.{is_some-at_number}
+use Rattle.spec_records.specs.Words.{count_object, is_object}
+use Rattle.spec_records.proofs.Lists.{is_some-at_number}
 use Rattle.kernel_holdings.specs.Words.{HoldingsValue, references_of}
-use Rattle.written_kernel.specs.Types.{Door, Obj}
+use Rattle.spec_kernel.specs.Types.{Door, Obj}
 use Rattle.kernel_store.specs.Stored.{AreThere, ReferToDoors}
 
 none_before : (doors after : List Door) (d : ℕ) → length doors ≤ length after → at_number after d ≡ None → at_number doors d ≡ None

@@ -3,15 +3,15 @@ use Rattle.std.proofs.Common.{◌≡◌, ℕ, zero, suc, ◌+◌, ◌-◌, ◌<�
 use Rattle.std.proofs.lemmas.Bool.Decides.{nat_tests}
 use Rattle.dk_base.specs.ByNumber.{at_number}
 use Rattle.dk_base.specs.declared.number.PathId.{PathId}
-use Rattle.kernel_records.specs.declared.record.ThreadState.TheVariants as is
+use Rattle.spec_records.specs.declared.record.ThreadState.TheVariants as is
 use Rattle.proc_table.specs.Words.{is_getting}
-use Rattle.kernel_records.specs.Words.{CallTree, NoticeList, ProcessTable, is_live_in, is_spare_of, is_unborn_in, new_thread_where, thread_at}
-use Rattle.written_kernel.specs.Types.{Door, Process, Thread}
+use Rattle.spec_records.specs.Words.{CallTree, NoticeList, ProcessTable, is_live_in, is_spare_of, is_unborn_in, new_thread_where, thread_at}
+use Rattle.spec_kernel.specs.Types.{Door, Process, Thread}
 use Rattle.server_pool.specs.Words.{AllBelow, PoolsValue, change_at_number, change_spares, spares_of, spares_or_none, with_spare, without_highest}
 use Rattle.server_pool.proofs.Changed.{changed_elsewhere, changed_here}
-use Rattle.pool_agreement.specs.Words.{Agrees, spare_at, spare_in, spares_among}
-use Rattle.pool_agreement.proofs.Readers.{length-change_at_number, same_number}
-use Rattle.pool_agreement.proofs.Starting.{agrees_spare, agrees_thread, agrees_unborn}
+use Rattle.law_pools.specs.Words.{Agrees, spare_at, spare_in, spares_among}
+use Rattle.law_pools.proofs.Readers.{length-change_at_number, same_number}
+use Rattle.law_pools.proofs.Starting.{agrees_spare, agrees_thread, agrees_unborn}
 use Rattle.exit_paths.specs.Words.{HoldsSame}
 
 pub is_there : (o : Option Process) → (is_live_in o || is_unborn_in o) ≡ true → is_some o ≡ true

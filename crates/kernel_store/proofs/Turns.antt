@@ -2,12 +2,12 @@
 use Rattle.std.proofs.Common.{ℕ, ◌≡◌, ◌&&◌, ◌||◌, ◌==◌, Bool, true, false, not, true≢false, List, [], ◌∷◌, is_some, find, Some, if◌then◌else◌, refl, sym, ap, ap₂, ◌∙◌, arith}
 use Rattle.std.proofs.lemmas.Bool.Decides.{nat_tests}
 use Rattle.dk_base.specs.declared.number.PathId.{PathId}
-use Rattle.kernel_records.specs.declared.record.ThreadState.TheVariants as is
+use Rattle.spec_records.specs.declared.record.ThreadState.TheVariants as is
 use Rattle.dk_base.specs.declared.object.Obj.TheVariants as obj
-use Rattle.kernel_records.specs.Words.{Port, ProcessTable, is_ready_for, name_in, port_of, state_in, thread_at}
-use Rattle.written_kernel.specs.Types.{Call, Name, ThreadState}
+use Rattle.spec_records.specs.Words.{Port, ProcessTable, is_ready_for, name_in, port_of, state_in, thread_at}
+use Rattle.spec_kernel.specs.Types.{Call, Name, ThreadState}
 use Rattle.call_tree.specs.Words.{is_ready_of}
-use Rattle.call_agreement.specs.Words.{AreBacked, is_calling}
+use Rattle.law_calls.specs.Words.{AreBacked, is_calling}
 use Rattle.kernel_holdings.specs.Words.{HoldingsValue, references_of}
 use Rattle.proc_table.specs.Words.{goes_on, is_awaiting, is_getting}
 use Rattle.kernel_store.specs.Stored.{StoreValue, stored_state}

@@ -1,15 +1,15 @@
 -- Rows that close, by which no association ends: as many are left as there were, so all is as it was.
 use Rattle.std.proofs.Common.{◌≡◌, ℕ, ◌≤◌, Bool, true, false, if◌then◌else◌, List, [], ◌∷◌, Option, filter, length, not, refl, sym, ap, ap₂, ◌∙◌, arith}
 use Rattle.std.proofs.lemmas.List.Filters.{length-filter_both}
-use Rattle.act_changes.specs.Closed.{Closing}
-use Rattle.act_changes.specs.Ended.{ended_by, process_ended, row_ended, rows_ended}
-use Rattle.kernel_records.specs.declared.association.Association.{Association}
-use Rattle.kernel_records.specs.Words.{is_of_process, is_of_row, withdraw_events}
+use Rattle.law_channels.specs.Closed.{Closing}
+use Rattle.law_channels.specs.Ended.{ended_by, process_ended, row_ended, rows_ended}
+use Rattle.spec_records.specs.declared.association.Association.{Association}
+use Rattle.spec_records.specs.Words.{is_of_process, is_of_row, withdraw_events}
 use Rattle.kernel_store.specs.declared.told.ClosedRows.{ClosedRows}
 use Rattle.kernel_store.specs.declared.told.ClosedRows.TheVariants as closed
 use Rattle.kernel_store.specs.Telling.{ended_in, is_empty_in}
-use Rattle.written_kernel.specs.Types.{Fd, Obj}
-use Rattle.written_kernel.specs.Words.{Channels}
+use Rattle.spec_kernel.specs.Types.{Fd, Obj}
+use Rattle.spec_kernel.specs.Words.{Channels}
 
 abbrev pub count : Channels → ℕ
 count c = length c.associations.associations

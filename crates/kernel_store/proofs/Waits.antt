@@ -5,16 +5,16 @@ use Rattle.std.proofs.lemmas.Bool.{cases_eq}
 use Rattle.std.proofs.lemmas.Bool.Decides.{nat_tests}
 use Rattle.dk_base.specs.ByNumber.{at_number}
 use Rattle.dk_base.specs.declared.object.Obj.TheVariants as obj
-use Rattle.kernel_records.specs.declared.record.ThreadState.TheVariants as is
-use Rattle.kernel_records.specs.declared.record.CallStage.TheVariants as stage
-use Rattle.kernel_records.specs.Words.{Leaving, Port, ProcessTable, change_thread, count_object, deserted_at, deserted_in, idle_thread, interrupted_state, interrupted_where, is_left, is_ready_for, is_served_by, left_thread, left_thread_of, left_threads, port_of, set_thread_state, state_in, thread_at, thread_at_state, thread_in_invocation, thread_outside}
-use Rattle.kernel_records.proofs.Lists.{at_number-map, at_number-push}
-use Rattle.written_kernel.specs.Types.{Call, CallStage, Item, Name, Obj, Thread, ThreadState}
-use Rattle.written_kernel.proofs.Threads.{thread_at-change_thread}
-use Rattle.call_agreement.proofs.Free.{changed_elsewhere, changed_here}
+use Rattle.spec_records.specs.declared.record.ThreadState.TheVariants as is
+use Rattle.spec_records.specs.declared.record.CallStage.TheVariants as stage
+use Rattle.spec_records.specs.Words.{Leaving, Port, ProcessTable, change_thread, count_object, deserted_at, deserted_in, idle_thread, interrupted_state, interrupted_where, is_left, is_ready_for, is_served_by, left_thread, left_thread_of, left_threads, port_of, set_thread_state, state_in, thread_at, thread_at_state, thread_in_invocation, thread_outside}
+use Rattle.spec_records.proofs.Lists.{at_number-map, at_number-push}
+use Rattle.spec_kernel.specs.Types.{Call, CallStage, Item, Name, Obj, Thread, ThreadState}
+use Rattle.spec_kernel.proofs.Threads.{thread_at-change_thread}
+use Rattle.law_calls.proofs.Free.{changed_elsewhere, changed_here}
 use Rattle.proc_table.specs.Words.{is_getting}
-use Rattle.thread_set.specs.declared.set.ThreadSet.{ThreadSet}
-use Rattle.thread_set.specs.Words.{has}
+use Rattle.dk_base.specs.declared.thread_set.ThreadSet.{ThreadSet}
+use Rattle.dk_base.specs.Words.{has}
 use Rattle.kernel_holdings.specs.Words.{ChangesOnly, HoldingsValue, references_of}
 use Rattle.kernel_store.specs.Turning.{KnowsPorts, KnowsPortsIn, has_ended_at, has_ended_in, is_port}
 

@@ -1,7 +1,7 @@
 -- The memory that pipes, event ports, associations and timers need, which is taken before an act.
 use Rattle.std.specs.Prelude.{ℕ, ◌+◌, ◌<◌}
 use Rattle.dk_base.specs.declared.object.Obj.{Obj}
-use Rattle.associated_ports.specs.Words.{HasRoomForEvents as HasRoomAtPort, HasRoomForTimer as HasRoomForTimerIn, HasRoomToAssociate as HasRoomToAssociateIn}
+use Rattle.kernel_ports.specs.Words.{HasRoomForEvents as HasRoomAtPort, HasRoomForTimer as HasRoomForTimerIn, HasRoomToAssociate as HasRoomToAssociateIn}
 use Rattle.kernel_store.specs.Stored.{StoreValue}
 
 -- another pipe

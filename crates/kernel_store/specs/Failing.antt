@@ -1,10 +1,10 @@
 -- Idle threads that lost their doors wake, one after the other, in any order.
 use Rattle.std.specs.Prelude.{ℕ, ◌≡◌, ◌<◌, false, length, true}
-use Rattle.kernel_records.specs.Words.{is_pool, numbers_where}
-use Rattle.written_kernel.specs.Types.{Pool}
-use Rattle.written_kernel.specs.Words.{State, fail_returns, has_lost_door}
-use Rattle.thread_set.specs.declared.set.ThreadSet.{ThreadSet}
-use Rattle.pool_agreement.specs.Words.{own_pool}
+use Rattle.spec_records.specs.Words.{is_pool, numbers_where}
+use Rattle.spec_kernel.specs.Types.{Pool}
+use Rattle.spec_kernel.specs.Words.{State, fail_returns, has_lost_door}
+use Rattle.dk_base.specs.declared.thread_set.ThreadSet.{ThreadSet}
+use Rattle.law_pools.specs.Words.{own_pool}
 use Rattle.kernel_store.specs.Frames.{IsGivenOutToOthers}
 use Rattle.kernel_store.specs.Stored.{StoreValue, stored_state}
 

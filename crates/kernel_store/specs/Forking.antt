@@ -1,9 +1,9 @@
 -- A child process that begins.
 use Rattle.std.specs.Prelude.{ℕ, ◌≡◌, ◌<◌, ◌≤◌, ◌&&◌, Bool, [], false, length, not, true}
-use Rattle.kernel_records.specs.Words.{Leaving, ProcessTable, is_dormant, is_spare_in, objects_of, thread_at}
+use Rattle.spec_records.specs.Words.{Leaving, ProcessTable, is_dormant, is_spare_in, objects_of, thread_at}
 use Rattle.proc_table.specs.Words.{is_of}
-use Rattle.written_kernel.specs.Types.{Pool}
-use Rattle.written_kernel.specs.Words.{State, process_of, state_of, table_of}
+use Rattle.spec_kernel.specs.Types.{Pool}
+use Rattle.spec_kernel.specs.Words.{State, process_of, state_of, table_of}
 use Rattle.server_pool.specs.Words.{item_room_in, queue_in, stack_in}
 use Rattle.kernel_store.specs.Stored.{StoreValue}
 

@@ -4,16 +4,16 @@ use Rattle.std.specs.List.{list_any}
 use Rattle.dk_base.specs.Words.{RoomValue}
 use Rattle.dk_base.specs.declared.limits.TheConstants.{EVENTS_MAX}
 use Rattle.dk_base.specs.ByNumber.{at_number}
-use Rattle.kernel_records.specs.declared.leaving.Leaver.{Leaver}
-use Rattle.kernel_records.specs.declared.leaving.Leaver.TheVariants.{EndedProcess}
-use Rattle.kernel_records.specs.Words.{is_done, is_dormant, is_idle, is_pool, valid_doors_of}
-use Rattle.written_kernel.specs.Types.{Parked, Pool, ThreadState}
-use Rattle.written_kernel.specs.Words.{State, has_lost_door, now, pool_of, state_of}
-use Rattle.call_agreement.specs.Words.{is_calling, is_given_item}
+use Rattle.spec_records.specs.declared.leaving.Leaver.{Leaver}
+use Rattle.spec_records.specs.declared.leaving.Leaver.TheVariants.{EndedProcess}
+use Rattle.spec_records.specs.Words.{is_done, is_dormant, is_idle, is_pool, valid_doors_of}
+use Rattle.spec_kernel.specs.Types.{Parked, Pool, ThreadState}
+use Rattle.spec_kernel.specs.Words.{State, has_lost_door, now, pool_of, state_of}
+use Rattle.law_calls.specs.Words.{is_calling, is_given_item}
 use Rattle.server_pool.specs.Words.{PoolsValue, item_room_in, queue_in, stack_in}
-use Rattle.pool_agreement.specs.Words.{IsGivenOut, IsGivenOutBut, own_pool}
-use Rattle.thread_set.specs.declared.set.ThreadSet.{ThreadSet}
-use Rattle.thread_set.specs.Words.{has}
+use Rattle.law_pools.specs.Words.{IsGivenOut, IsGivenOutBut, own_pool}
+use Rattle.dk_base.specs.declared.thread_set.ThreadSet.{ThreadSet}
+use Rattle.dk_base.specs.Words.{has}
 use Rattle.kernel_store.specs.Held.{AreHeld}
 use Rattle.kernel_store.specs.Stored.{ArePlaced, HasRoom, HasWholeStep, StoreValue, WaitAtValidDoors, stored_state}
 

@@ -1,11 +1,11 @@
 -- What waits in one pool is given to the threads parked there, and spares start.
 use Rattle.std.specs.Prelude.{◌≡◌, ◌<◌, ◌&&◌, ◌||◌, ℕ, Bool, Option, false, is_none, is_some, not, length, suc, true, zero}
-use Rattle.written_kernel.specs.Types.{Pool}
-use Rattle.kernel_records.specs.Words.{is_pool, pid}
-use Rattle.kernel_records.specs.declared.pool.Pool.TheVariants.{Common}
-use Rattle.written_kernel.specs.Words.{State, give, has_given_last, pick, start_one}
+use Rattle.spec_kernel.specs.Types.{Pool}
+use Rattle.spec_records.specs.Words.{is_pool, pid}
+use Rattle.spec_records.specs.declared.pool.Pool.TheVariants.{Common}
+use Rattle.spec_kernel.specs.Words.{State, give, has_given_last, pick, start_one}
 use Rattle.server_pool.specs.Words.{pick_of, queue_in, stack_in}
-use Rattle.pool_agreement.specs.Words.{IsGivenOut, IsGivenOutIn, is_this}
+use Rattle.law_pools.specs.Words.{IsGivenOut, IsGivenOutIn, is_this}
 use Rattle.kernel_store.specs.Stored.{IsAgreed, StoreValue, stored_state}
 
 -- givings in this pool leave what the written kernel gives in all, and the other pools; no thread parks by them

@@ -2,11 +2,11 @@
 use Rattle.std.specs.Prelude.{ℕ, ◌≡◌, ◌≤◌, ◌||◌, true, List, Option, Some, slice_get}
 use Rattle.std.specs.List.{list_any}
 use Rattle.dk_base.specs.declared.object.Item.TheVariants as item
-use Rattle.kernel_records.specs.declared.record.ThreadState.TheVariants as is
-use Rattle.kernel_records.specs.Words.{Leaving, ProcessTable, invocation_in, is_entered_stage, is_given_stage, state_in, thread_at}
-use Rattle.written_kernel.specs.Types.{Inv, Item, Notice, ThreadState}
-use Rattle.written_kernel.specs.Words.{State}
-use Rattle.kernel_invariant.specs.Records.{item_in}
+use Rattle.spec_records.specs.declared.record.ThreadState.TheVariants as is
+use Rattle.spec_records.specs.Words.{Leaving, ProcessTable, invocation_in, is_entered_stage, is_given_stage, state_in, thread_at}
+use Rattle.spec_kernel.specs.Types.{Inv, Item, Notice, ThreadState}
+use Rattle.spec_kernel.specs.Words.{State}
+use Rattle.law_states.specs.Records.{item_in}
 use Rattle.unref_notice.specs.Words.{is_notice_item}
 
 abbrev pub held_as : ThreadState → Option Inv → Option Item

@@ -1,9 +1,9 @@
 -- The room for items that each pool keeps for notices, whether or not it has any, and which pools may have less.
 use Rattle.std.specs.Prelude.{◌≡◌, ◌+◌, ◌≤◌, ℕ, Bool, List, false, is_some, true}
 use Rattle.std.specs.List.{list_any}
-use Rattle.kernel_records.specs.declared.pool.Pool.TheVariants.{Common, Private}
-use Rattle.kernel_records.specs.Words.{is_pool}
-use Rattle.written_kernel.specs.Types.{Pool}
+use Rattle.spec_records.specs.declared.pool.Pool.TheVariants.{Common, Private}
+use Rattle.spec_records.specs.Words.{is_pool}
+use Rattle.spec_kernel.specs.Types.{Pool}
 use Rattle.server_pool.specs.Words.{PoolsValue, item_room_in, pool_at}
 use Rattle.unref_notice.specs.declared.counts.TheConstants.{STEP_MAX}
 

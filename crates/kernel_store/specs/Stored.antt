@@ -2,10 +2,10 @@
 use Rattle.std.specs.Prelude.{ℕ, ◌≡◌, ◌+◌, ◌<◌, ◌≤◌, ◌==◌, ◌&&◌, Bool, List, None, Option, Some, count_by, false, is_some, length, min, slice_get, true, []}
 use Rattle.dk_base.specs.ByNumber.{at_number}
 use Rattle.dk_base.specs.Words.{RoomValue}
-use Rattle.written_kernel.specs.Types.{Call, Door, Notice, Obj, Pool}
-use Rattle.kernel_records.specs.Words.{Pipe, ProcessTable, count_object, is_pool, is_queued, is_valid_in, is_waiting_stage, notice_doors}
-use Rattle.written_kernel.specs.Words.{State, door_of, may_have_notice, pool_of, reference_count}
-use Rattle.written_kernel.specs.Words.{references_of as object_count}
+use Rattle.spec_kernel.specs.Types.{Call, Door, Notice, Obj, Pool}
+use Rattle.spec_records.specs.Words.{Pipe, ProcessTable, count_object, is_pool, is_queued, is_valid_in, is_waiting_stage, notice_doors}
+use Rattle.spec_kernel.specs.Words.{State, door_of, may_have_notice, pool_of, reference_count}
+use Rattle.spec_kernel.specs.Words.{references_of as object_count}
 use Rattle.name_space.specs.Words.{HasRoomForName, NameTable}
 use Rattle.server_pool.specs.Words.{PoolsValue, item_room_in, pool_at, thread_room_in}
 use Rattle.call_tree.specs.Words.{CallsValue, HasRoomForCall}
@@ -18,7 +18,7 @@ use Rattle.dk_base.specs.declared.object.Obj.TheVariants as obj
 use Rattle.kernel_holdings.specs.Words.{HoldingsValue, references_of}
 use Rattle.unref_notice.specs.declared.counts.TheConstants.{STEP_MAX}
 use Rattle.unref_notice.specs.declared.notices.TheConstants.{NOTICES_MAX}
-use Rattle.pool_agreement.specs.Words.{Agrees, HasPlaces}
+use Rattle.law_pools.specs.Words.{Agrees, HasPlaces}
 use Rattle.kernel_store.specs.Noticing.{HaveItemRoomBut}
 
 pub record StoreValue : Type 0 where

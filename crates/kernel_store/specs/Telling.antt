@@ -1,22 +1,22 @@
 -- What ports are told once all else that follows an act is done.
 use Rattle.std.specs.Prelude.{◌≡◌, ℕ, ◌+◌, ◌≤◌, ◌==◌, ◌&&◌, ◌||◌, Bool, List, [], ◌∷◌, length, Option, None, Some, All, true, false, filter, is_none}
 use Rattle.std.specs.List.{list_any}
-use Rattle.act_changes.specs.Changed.{IsAfterAct, OnlyLiveHaveRows, UnbornHaveNoRows, is_gone, readied}
-use Rattle.act_changes.specs.Closed.{Closing, closed_rows}
-use Rattle.act_changes.specs.Ended.{process_ended, rows_ended}
-use Rattle.act_changes.specs.Ends.{is_end}
-use Rattle.associated_ports.specs.Words.{AssociatedPortsValue, HasRoomToEnd}
-use Rattle.kernel_invariant.specs.Told.{AreTold}
-use Rattle.kernel_records.specs.Words.{Pipe, is_object, is_to_fire, object_named, table_in}
+use Rattle.law_channels.specs.Changed.{IsAfterAct, OnlyLiveHaveRows, UnbornHaveNoRows, is_gone, readied}
+use Rattle.law_channels.specs.Closed.{Closing, closed_rows}
+use Rattle.law_channels.specs.Ended.{process_ended, rows_ended}
+use Rattle.law_channels.specs.Ends.{is_end}
+use Rattle.kernel_ports.specs.Words.{AssociatedPortsValue, HasRoomToEnd}
+use Rattle.law_states.specs.Told.{AreTold}
+use Rattle.spec_records.specs.Words.{Pipe, is_object, is_to_fire, object_named, table_in}
 use Rattle.kernel_store.specs.declared.told.ClosedRows.{ClosedRows}
 use Rattle.kernel_store.specs.declared.told.ClosedRows.TheVariants as closed
 use Rattle.kernel_store.specs.declared.told.TellingRooms.{TellingRooms}
-use Rattle.port_telling.specs.declared.changed.Ends.{Ends}
-use Rattle.port_telling.specs.Words.{HasAllReferences, is_end_in, is_end_of, other_end}
+use Rattle.kernel_ports.specs.declared.changed.Ends.{Ends}
+use Rattle.kernel_ports.specs.Words.{HasAllReferences, is_end_in, is_end_of, other_end}
 use Rattle.unref_notice.specs.Words.{ObjectCounts, count_of}
 use Rattle.unref_notice.specs.declared.counts.TheConstants.{STEP_MAX}
-use Rattle.written_kernel.specs.Types.{Fd, Obj, Request}
-use Rattle.written_kernel.specs.Words.{Channels, State, associations_in, ready_at, references_of}
+use Rattle.spec_kernel.specs.Types.{Fd, Obj, Request}
+use Rattle.spec_kernel.specs.Words.{Channels, State, associations_in, ready_at, references_of}
 
 -- rows that an act closes
 

@@ -1,14 +1,14 @@
 -- Which threads can take a turn.
 use Rattle.std.specs.Prelude.{ℕ, ◌≡◌, ◌==◌, ◌&&◌, ◌||◌, not, Bool, List, Option, false, is_some, true}
 use Rattle.dk_base.specs.declared.number.PathId.{PathId}
-use Rattle.kernel_records.specs.declared.record.ThreadState.TheVariants as is
+use Rattle.spec_records.specs.declared.record.ThreadState.TheVariants as is
 use Rattle.dk_base.specs.declared.object.Obj.TheVariants as obj
-use Rattle.kernel_records.specs.Words.{Port, ProcessTable, is_ready_for, name_in, port_of, state_in, thread_at}
+use Rattle.spec_records.specs.Words.{Port, ProcessTable, is_ready_for, name_in, port_of, state_in, thread_at}
 use Rattle.proc_table.specs.Words.{is_getting}
-use Rattle.thread_set.specs.declared.set.ThreadSet.{ThreadSet}
-use Rattle.thread_set.specs.Words.{has}
-use Rattle.written_kernel.specs.Types.{Call, Name, Obj, ThreadState}
-use Rattle.written_kernel.specs.Words.{State, can_go_on, state_of}
+use Rattle.dk_base.specs.declared.thread_set.ThreadSet.{ThreadSet}
+use Rattle.dk_base.specs.Words.{has}
+use Rattle.spec_kernel.specs.Types.{Call, Name, Obj, ThreadState}
+use Rattle.spec_kernel.specs.Words.{State, can_go_on, state_of}
 use Rattle.exit_paths.specs.Words.{has_ready}
 use Rattle.kernel_holdings.specs.Words.{HoldingsValue, references_of, references_to}
 

@@ -1,7 +1,7 @@
 //! Threads of child processes, as they are made and as they begin (fork(2)).
 ghost use Rattle.std.specs.Prelude.{◌≡◌, ◌||◌, ◌+◌, ◌++◌, ◌∷◌, [], filter, length, true, OnErr, OnOk};
 ghost use Rattle.dk_base.specs.ByNumber.{at_number};
-ghost use Rattle.kernel_records.specs.Words.{is_live_in, is_unborn_in, new_thread_where};
+ghost use Rattle.spec_records.specs.Words.{is_live_in, is_unborn_in, new_thread_where};
 ghost use Rattle.server_pool.specs.Words.{change_spares};
 ghost use Rattle.kernel_store.specs.Forking.{stays_spare};
 

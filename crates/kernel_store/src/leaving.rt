@@ -2,9 +2,9 @@
 ghost use Rattle.std.specs.Prelude.{◌≡◌, ◌+◌, ◌<◌, ◌≤◌, ◌++◌, ℕ, List, Some, true, IfOk, length};
 ghost use Rattle.std.specs.List.{list_any};
 ghost use Rattle.dk_base.specs.declared.object.Item.TheVariants as item;
-ghost use Rattle.kernel_records.specs.declared.leaving.Leaver.TheVariants.{Ended, EndedProcess};
-ghost use Rattle.kernel_records.specs.Words.{end_notice, kept_notices, leaving_of, left_notices, park_thread};
-ghost use Rattle.written_kernel.specs.Types.{Door};
+ghost use Rattle.spec_records.specs.declared.leaving.Leaver.TheVariants.{Ended, EndedProcess};
+ghost use Rattle.spec_records.specs.Words.{end_notice, kept_notices, leaving_of, left_notices, park_thread};
+ghost use Rattle.spec_kernel.specs.Types.{Door};
 ghost use Rattle.server_pool.specs.Words.{change_pool, park_in};
 ghost use Rattle.exit_paths.specs.Words.{CanParkAgain, own_pool_in};
 ghost use Rattle.unref_notice.specs.Words.{AreAllLeft, IsAllEntered, is_notice_item};
@@ -16,11 +16,11 @@ use dk_base::number::{Pid, Tid};
 use dk_base::object::Item;
 use door_object::doors::Doors;
 use exit_paths::who_leaves::{ends, loses, own_pool};
-use kernel_records::leaving::Leaver;
-use kernel_records::record::ThreadState;
 use proc_table::procs::Procs;
 use proc_table::walk::Walk;
 use server_pool::pools::Pools;
+use spec_records::leaving::Leaver;
+use spec_records::record::ThreadState;
 use std::alloc::Global;
 use unref_notice::notices::Notices;
 

@@ -4,8 +4,8 @@ ghost use Rattle.exit_paths.specs.Words.{HasNoLessRoom, HoldsSame};
 ghost use Rattle.kernel_store.specs.Noticing.{HaveItemRoomBut, items_for};
 
 use dk_base::error::NoMemory;
-use kernel_records::pool::Pool;
 use server_pool::pools::Pools;
+use spec_records::pool::Pool;
 use unref_notice::counts::STEP_MAX;
 
 /// How many items a pool takes where it may get a notice of each door that falls in one event, and one more item.

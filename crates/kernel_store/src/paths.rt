@@ -2,16 +2,16 @@
 ghost use Rattle.std.specs.Prelude.{◌≡◌, ◌≢◌, ◌<◌, ◌≤◌, ℕ, is_some};
 ghost use Rattle.dk_base.specs.declared.limits.TheConstants.{THREADS_MAX};
 ghost use Rattle.dk_base.specs.declared.number.PathId.{PathId};
-ghost use Rattle.kernel_records.specs.declared.record.ThreadState.TheVariants as is;
-ghost use Rattle.kernel_records.specs.Words.{name_in, state_in, thread_at};
-ghost use Rattle.thread_set.specs.Words.{has};
+ghost use Rattle.spec_records.specs.declared.record.ThreadState.TheVariants as is;
+ghost use Rattle.spec_records.specs.Words.{name_in, state_in, thread_at};
+ghost use Rattle.dk_base.specs.Words.{has};
 ghost use Rattle.kernel_store.specs.Turning.{KnowsPaths, is_found_at};
 
 use dk_base::number::Tid;
-use kernel_records::record::ThreadState;
+use dk_base::thread_set::ThreadSet;
 use name_space::names::Names;
 use proc_table::procs::Procs;
-use thread_set::set::ThreadSet;
+use spec_records::record::ThreadState;
 
 /// Whether a thread at this waits for a path that a door is attached to.
 fn is_found(names: &Names, state: &ThreadState) -> bool

@@ -4,19 +4,19 @@ ghost use Rattle.std.specs.List.{list_any};
 ghost use Rattle.std.specs.Option.{option_to_list};
 ghost use Rattle.dk_base.specs.declared.limits.TheConstants.{THREADS_MAX};
 ghost use Rattle.dk_base.specs.declared.object.Obj.TheVariants as obj;
-ghost use Rattle.kernel_records.specs.Words.{Port, object_named, state_in, table_in, thread_at};
+ghost use Rattle.spec_records.specs.Words.{Port, object_named, state_in, table_in, thread_at};
 ghost use Rattle.kernel_holdings.specs.Words.{HoldingsValue, references_of, results_in};
-ghost use Rattle.thread_set.specs.Words.{has};
+ghost use Rattle.dk_base.specs.Words.{has};
 ghost use Rattle.kernel_store.specs.Turning.{IsSamePort, KnowsPorts, has_ended_at, is_port, waits_at};
 
-use associated_ports::ports::AssociatedPorts;
 use call_tree::parts::Outcome;
 use dk_base::number::{Fd, Pid, Tid};
 use dk_base::object::Obj;
+use dk_base::thread_set::ThreadSet;
 use kernel_holdings::holdings::Holdings;
-use kernel_records::record::ThreadState;
+use kernel_ports::ports::AssociatedPorts;
 use proc_table::procs::Procs;
-use thread_set::set::ThreadSet;
+use spec_records::record::ThreadState;
 
 /// Whether a thread at this waits at a port, was not interrupted, and its wait can end.
 fn has_ended(held: &Holdings, ports: &AssociatedPorts, state: &ThreadState) -> bool

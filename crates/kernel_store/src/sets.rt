@@ -2,10 +2,10 @@
 ghost use Rattle.std.specs.Prelude.{◌≡◌, ◌≤◌, ◌<◌, ◌==◌, ℕ, false, length, true, IfNone, IfSome};
 ghost use Rattle.std.specs.List.{All, list_any};
 ghost use Rattle.dk_base.specs.declared.limits.TheConstants.{THREADS_MAX};
-ghost use Rattle.thread_set.specs.Words.{has, members, with_thread};
+ghost use Rattle.dk_base.specs.Words.{has, members, with_thread};
 
 use dk_base::number::Tid;
-use thread_set::set::ThreadSet;
+use dk_base::thread_set::ThreadSet;
 
 /// The threads of a list.
 pub fn set_of(threads: &[Tid]) -> ThreadSet

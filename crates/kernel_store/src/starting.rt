@@ -1,12 +1,12 @@
 //! Which processes start a spare after an act, of numbers alone.
 ghost use Rattle.std.specs.Prelude.{◌≡◌, ℕ, ◌&&◌, ◌||◌, false, not, true};
 ghost use Rattle.std.specs.Option.{option_map};
-ghost use Rattle.kernel_records.specs.declared.pool.Pool.TheVariants.{Common};
-ghost use Rattle.kernel_records.specs.Words.{is_pool, pid};
-ghost use Rattle.pool_agreement.specs.Words.{is_this};
+ghost use Rattle.spec_records.specs.declared.pool.Pool.TheVariants.{Common};
+ghost use Rattle.spec_records.specs.Words.{is_pool, pid};
+ghost use Rattle.law_pools.specs.Words.{is_this};
 
 use dk_base::number::Pid;
-use kernel_records::pool::Pool;
+use spec_records::pool::Pool;
 
 /// Whether a process is this one.
 fn is_this(process: Option<Pid>, p: u32) -> bool

@@ -2,12 +2,12 @@
 ghost use Rattle.std.specs.Prelude.{◌≡◌, ℕ, ◌<◌, ◌∷◌, [], true, is_none, is_some, IfOk, IfSome};
 ghost use Rattle.dk_base.specs.declared.limits.TheConstants.{EVENTS_MAX};
 ghost use Rattle.dk_base.specs.declared.object.Obj.TheVariants as obj;
-ghost use Rattle.kernel_records.specs.Words.{door_attached, free_rows, is_bad_pass, lowest_free};
-ghost use Rattle.written_kernel.specs.Words.{bound_of, calls_waiting, door_of, has_invalid_door, has_room, name_of, no_process, now, object_at, pool_of, reference_count, references_of, table_of};
-ghost use Rattle.pool_agreement.specs.Words.{own_pool};
+ghost use Rattle.spec_records.specs.Words.{door_attached, free_rows, is_bad_pass, lowest_free};
+ghost use Rattle.spec_kernel.specs.Words.{bound_of, calls_waiting, door_of, has_invalid_door, has_room, name_of, no_process, now, object_at, pool_of, reference_count, references_of, table_of};
+ghost use Rattle.law_pools.specs.Words.{own_pool};
 ghost use Rattle.kernel_store.specs.Frames.{IsAtRest};
 ghost use Rattle.kernel_store.specs.Turning.{can_turn};
-ghost use Rattle.thread_set.specs.Words.{has};
+ghost use Rattle.dk_base.specs.Words.{has};
 ghost use Rattle.kernel_store.specs.Stored.{AreThere, IsAgreed, may_have_notice_in, stored_state};
 
 mod calls;
@@ -20,24 +20,24 @@ mod telling;
 mod threads;
 mod timers;
 
-use associated_ports::ports::AssociatedPorts;
 use call_tree::calls::Calls;
 use dk_base::error::NoMemory;
 use dk_base::list::{ObjList, PassList, Room};
 use dk_base::number::{Fd, PathId, Pid, Tid};
 use dk_base::object::Obj;
+use dk_base::thread_set::ThreadSet;
 use door_object::doors::Doors;
 use event_port::ports::Ports;
 use exit_paths::who_leaves::own_pool;
 use kernel_holdings::holdings::Holdings;
-use kernel_records::pool::Pool;
-use kernel_records::record::Door;
+use kernel_ports::ports::AssociatedPorts;
 use pipe_obj::pipes::Pipes;
 use proc_table::procs::Procs;
 use server_pool::pools::Pools;
+use spec_records::pool::Pool;
+use spec_records::record::Door;
 use std::alloc::Global;
 use std::marker::Model;
-use thread_set::set::ThreadSet;
 use unref_notice::notices::Notices;
 
 /// What the kernel holds. It keeps the calls that are live, and the notices that are not past or that a rule asks for again. At
@@ -66,8 +66,8 @@ pub struct Store {
 }
 
 impl Model for Store {
-    ghost use Rattle.call_agreement.specs.Words.{AreBacked};
-    ghost use Rattle.pool_agreement.specs.Words.{Agrees};
+    ghost use Rattle.law_calls.specs.Words.{AreBacked};
+    ghost use Rattle.law_pools.specs.Words.{Agrees};
     ghost use Rattle.kernel_store.specs.Noticing.{HaveItemRoomBut};
     ghost use Rattle.kernel_store.specs.Stored.{ReferToDoors, StoreValue};
     ghost use Rattle.kernel_store.specs.Turning.{KnowsPaths, KnowsPorts};

@@ -1,15 +1,15 @@
 //! Associations and timers that end by the rows that an act closed, and what is known of a pipe that it changed.
 ghost use Rattle.std.specs.Prelude.{◌≡◌, ℕ, List, false, filter, if◌then◌else◌, length};
-ghost use Rattle.act_changes.specs.Ended.{row_ended, rows_ended, timers_ended};
-ghost use Rattle.associated_ports.specs.Words.{HasRoomToEnd};
-ghost use Rattle.kernel_records.specs.Words.{Pipe};
+ghost use Rattle.law_channels.specs.Ended.{row_ended, rows_ended, timers_ended};
+ghost use Rattle.kernel_ports.specs.Words.{HasRoomToEnd};
+ghost use Rattle.spec_records.specs.Words.{Pipe};
 ghost use Rattle.kernel_store.specs.Telling.{channels_in, closing_of, ended_in, is_empty_in};
 
 use crate::told::ClosedRows;
-use associated_ports::ending::Ending;
-use associated_ports::ports::AssociatedPorts;
 use dk_base::number::{Fd, Pid};
 use kernel_holdings::holdings::Holdings;
+use kernel_ports::ending::Ending;
+use kernel_ports::ports::AssociatedPorts;
 
 /// Where a row of a process names nothing, the associations that watch by it end.
 fn end_if_empty(ports: &mut AssociatedPorts, held: &Holdings, process: Pid, fd: Fd)

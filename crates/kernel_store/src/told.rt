@@ -2,12 +2,12 @@
 ghost use Rattle.std.specs.Prelude.{◌≡◌, [], OnErr, OnOk};
 ghost use Rattle.kernel_store.specs.Telling.{HasRoomToTell, TellsNothing, is_nothing};
 
-use associated_ports::ending::Ending;
 use dk_base::error::NoMemory;
 use dk_base::list::Room;
 use dk_base::number::{Fd, Pid};
 use dk_base::object::Obj;
-use port_telling::changed::Changed;
+use kernel_ports::changed::Changed;
+use kernel_ports::ending::Ending;
 use std::alloc::Global;
 use unref_notice::counts::STEP_MAX;
 

@@ -1,13 +1,13 @@
 -- A legal history is a run, and its entries are the run's events.
 use Rattle.std.proofs.Common.{◌≡◌, ℕ, zero, suc, ◌+◌, ◌<◌, ◌≤◌, List, [], ◌∷◌, ◌++◌, Bool, true, false, Option, None, Some, length, map, slice_get, refl, ap, sym, subst, ◌∙◌, arith, append_assoc}
 use Rattle.std.proofs.lemmas.List.{append-nil}
-use Rattle.kernel_records.specs.declared.record.ThreadState.TheVariants as is
-use Rattle.written_kernel.specs.Types.{Answer, Request, ThreadState}
-use Rattle.written_kernel.specs.Words.{IsOpening, IsRun, State, Turn, state_after, state_after_turn, state_at, state_of, step, what_of}
+use Rattle.spec_records.specs.declared.record.ThreadState.TheVariants as is
+use Rattle.spec_kernel.specs.Types.{Answer, Request, ThreadState}
+use Rattle.spec_kernel.specs.Words.{IsOpening, IsRun, State, Turn, state_after, state_after_turn, state_at, state_of, step, what_of}
 use Rattle.spec_events.specs.Words.{event_of, events_of, output_at, with_output}
-use Rattle.written_kernel.proofs.Runs.{state_at_all}
-use Rattle.kernel_laws.specs.Laws.{Laws}
-use Rattle.kernel_laws.specs.Tasks.{Tasks}
+use Rattle.spec_kernel.proofs.Runs.{state_at_all}
+use Rattle.law_runs.specs.Laws.{Laws}
+use Rattle.law_runs.specs.Tasks.{Tasks}
 use Rattle.spec_histories.specs.Histories.{Entry, Follows, History, IsHistory, IsLegal, end, entry_of, turns_of}
 use Rattle.law_histories.specs.Shown.{HasNoTask, Shown, event_shown, event_told, is_task}
 

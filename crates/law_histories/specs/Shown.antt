@@ -1,8 +1,8 @@
 -- What an entry shows of its event.
 use Rattle.std.specs.Prelude.{ℕ, ◌≡◌, List, [], ◌∷◌, Option, Some, None, Bool, true, false}
 use Rattle.dk_base.specs.declared.request.Request.TheVariants as request
-use Rattle.written_kernel.specs.Types.{Answer, Event, Request, What}
-use Rattle.written_kernel.specs.Words.{Turn}
+use Rattle.spec_kernel.specs.Types.{Answer, Event, Request, What}
+use Rattle.spec_kernel.specs.Words.{Turn}
 use Rattle.spec_histories.specs.Histories.{Entry}
 
 abbrev pub is_task : Option Request → Bool

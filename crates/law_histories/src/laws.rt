@@ -1,8 +1,8 @@
 //! The laws of legal histories. Nothing runs here: a call of the function hands them to the caller's proof.
 ghost use Rattle.std.specs.Prelude.{◌≡◌, ℕ, map, slice_get, Some};
-ghost use Rattle.written_kernel.specs.Words.{IsRun, State, Turn, state_after, state_at, step};
+ghost use Rattle.spec_kernel.specs.Words.{IsRun, State, Turn, state_after, state_at, step};
 ghost use Rattle.spec_events.specs.Words.{events_of};
-ghost use Rattle.kernel_laws.specs.Laws.{Laws};
+ghost use Rattle.law_runs.specs.Laws.{Laws};
 ghost use Rattle.spec_histories.specs.Histories.{Entry, History, IsHistory, end, turns_of};
 ghost use Rattle.law_histories.specs.Shown.{HasNoTask, event_shown, event_told};
 
@@ -14,5 +14,5 @@ pub fn histories_are_runs()
     ensures answers { (h : History) → IsHistory h → (i : ℕ) (e : Entry) → slice_get h.entries i ≡ Some e → e.answer ≡ (step (state_at h.opening (turns_of h.entries) i) e.turn.thread e.turn.request).answer }
     ensures events { (h : History) → IsHistory h → HasNoTask (turns_of h.entries) → map event_told h.entries ≡ map event_shown (events_of h.opening (turns_of h.entries)) }
 {
-    kernel_laws::laws::every_run();
+    law_runs::laws::every_run();
 }

@@ -2,13 +2,13 @@
 use Rattle.std.proofs.Common.{◌≡◌, ℕ, ◌<◌, Bool, List, [], ◌∷◌, length, Option, Some, None, Result, Ok, Err, refl, ap, sym, ◌∙◌, arith}
 use Rattle.std.specs.Prelude.{option_and_then, option_map}
 use Rattle.std.proofs.lemmas.Bool.{false≢true}
-use Rattle.script_text.specs.Types.{Attrs}
+use Rattle.line_text.specs.Types.{Attrs}
 use Rattle.line_reader.specs.Types.{Reason}
-use Rattle.script_line.specs.declared.reason.Reason.TheVariants.{Form}
+use Rattle.line_forms.specs.declared.reason.Reason.TheVariants.{Form}
 use Rattle.line_reader.specs.Combinators.{Rest, then_read, value_with_rest, spelled_value}
 use Rattle.line_reader.specs.ListContracts.{any_word}
 use Rattle.line_reader.specs.Operands as operands
-use Rattle.script_line.specs.Words.{attribute_flags, bits_of_word, set_from, with_bits}
+use Rattle.line_forms.specs.Words.{attribute_flags, bits_of_word, set_from, with_bits}
 use Rattle.line_reader.proofs.ItemByItem.{is_taken}
 
 -- the words so far are in the set, and nothing else of the rest has changed

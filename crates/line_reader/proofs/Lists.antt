@@ -1,7 +1,7 @@
 -- The lists of operands, one item after another.
 use Rattle.std.proofs.Common.{◌≡◌, ℕ, ◌<◌, Bool, true, false, cond, List, [], ◌∷◌, length, Some, Result, Ok, Err, refl, ap, sym, ◌∙◌, arith}
 use Rattle.std.proofs.lemmas.Bool.{false≢true}
-use Rattle.script_line.specs.Words.{Tables}
+use Rattle.line_forms.specs.Words.{Tables}
 use Rattle.line_reader.specs.Types.{Piece, Reason}
 use Rattle.line_reader.specs.Combinators.{Rest, Reader, pure, value_with_rest, misspelling, then_read, items_to, ◌>>=◌}
 use Rattle.line_reader.specs.Operands.{is_rsize, is_no_stop, pass_from_word, fd_from_word, piece_from_word, is_plus, more_pieces, thread_from_word}

@@ -4,10 +4,10 @@ use Rattle.std.specs.Prelude.{◌==◌, bytes_eq, codes}
 use Rattle.line_reader.specs.Types.{Reason}
 use Rattle.line_reader.specs.Combinators.{Rest, Reader, pure, misspelling, value_out_of_range, value_of_undeclared, spelled_value, declared_number, then_read, ◌>>=◌}
 use Rattle.line_reader.specs.Operands.{number_reader, number_from_word, name_from_word, variable_parts, descriptor_number, fd_from_word, pass_parts, pass_from_word, text_piece, variable_piece, fill_parts, piece_from_word, thread_from_word}
-use Rattle.script_line.specs.Words.{Tables, thread_number}
-use Rattle.script_text.specs.declared.number.Number.{Number}
-use Rattle.script_text.specs.declared.number.Number.TheVariants.{Found, OutOfRange, NoNumber}
-use Rattle.script_text.specs.Words.{bounded_number, is_name, part_before_last, parts_at, string_of}
+use Rattle.line_forms.specs.Words.{Tables, thread_number}
+use Rattle.line_text.specs.declared.number.Number.{Number}
+use Rattle.line_text.specs.declared.number.Number.TheVariants.{Found, OutOfRange, NoNumber}
+use Rattle.line_text.specs.Words.{bounded_number, is_name, part_before_last, parts_at, string_of}
 
 -- the rest, with these words left
 abbrev pub at_words : List (List ℕ) → Rest → Rest

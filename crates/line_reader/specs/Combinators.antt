@@ -1,7 +1,7 @@
 -- Readers of operands.
 use Rattle.std.specs.Prelude.{ℕ, Bool, true, false, ◌&&◌, nat_le, List, [], ◌∷◌, Option, Some, None, Result, Ok, Err, bytes_eq, length, if◌then◌else◌}
 use Rattle.line_reader.specs.Types.{Reason}
-use Rattle.script_line.specs.declared.reason.Reason.TheVariants.{Form, Range}
+use Rattle.line_forms.specs.declared.reason.Reason.TheVariants.{Form, Range}
 
 -- The words of a line that are still to be read; whether each number so far is in its range, and whether each name of a
 -- procedure, a thread or a process so far is declared.

@@ -1,9 +1,9 @@
 -- The operands of each command, in the order of the language's table.
 use Rattle.std.specs.Prelude.{ℕ, Bool, true, false, codes}
 use Rattle.line_reader.specs.Types.{Keyword, Line}
-use Rattle.script_line.specs.declared.keyword.Keyword.TheVariants as keyword
-use Rattle.script_line.specs.declared.line.Line.TheVariants.{Create, Call, Return, Serve, Revoke, Bind, Unbind, Info, InfoQuery, GetParam, SetParam, Cred, TestCancel, Exit, Close, Dup, Attach, Detach, Open, Await, Pipe, Write, Read, PortCreate, Associate, Dissociate, Get, GetN, Send, SendN, Alert, TimerCreate, TimerSet, TimerDelete, Advance, Interrupt, Kill, Fork, Work, Ncd, Repeat, If, End}
-use Rattle.script_line.specs.Words.{Tables, greatest_32, greatest_64}
+use Rattle.line_forms.specs.declared.keyword.Keyword.TheVariants as keyword
+use Rattle.line_forms.specs.declared.line.Line.TheVariants.{Create, Call, Return, Serve, Revoke, Bind, Unbind, Info, InfoQuery, GetParam, SetParam, Cred, TestCancel, Exit, Close, Dup, Attach, Detach, Open, Await, Pipe, Write, Read, PortCreate, Associate, Dissociate, Get, GetN, Send, SendN, Alert, TimerCreate, TimerSet, TimerDelete, Advance, Interrupt, Kill, Fork, Work, Ncd, Repeat, If, End}
+use Rattle.line_forms.specs.Words.{Tables, greatest_32, greatest_64}
 use Rattle.line_reader.specs.Combinators.{Reader, optional_word, value_at_end, ◌>>=◌}
 use Rattle.line_reader.specs.Operands.{number, name, procedure, thread, process, child, path, fd, passes, rsize, ports, pieces, attributes, poll, param, mode, op, condition, value, wait_option}
 

@@ -1,13 +1,13 @@
 -- The operands of lines.
 use Rattle.std.specs.Prelude.{ℕ, Bool, true, false, ◌==◌, List, [], ◌∷◌, Option, Some, None, bytes_eq, codes, if◌then◌else◌, take}
-use Rattle.script_text.specs.Types.{AlertMode, Attrs, Op, Param, PathId, Pid, PollSet, Tid}
-use Rattle.script_text.specs.declared.number.Number.{Number}
-use Rattle.script_text.specs.declared.number.Number.TheVariants.{Found, OutOfRange, NoNumber}
-use Rattle.script_text.specs.Words.{bounded_number, is_name, part_before_last, parts_at, string_of}
+use Rattle.line_text.specs.Types.{AlertMode, Attrs, Op, Param, PathId, Pid, PollSet, Tid}
+use Rattle.line_text.specs.declared.number.Number.{Number}
+use Rattle.line_text.specs.declared.number.Number.TheVariants.{Found, OutOfRange, NoNumber}
+use Rattle.line_text.specs.Words.{bounded_number, is_name, part_before_last, parts_at, string_of}
 use Rattle.line_reader.specs.Types.{Cond, FdArg, PassArg, Piece}
-use Rattle.script_line.specs.declared.line.FdArg.TheVariants.{Number as NumberFd, Of as OfFd}
-use Rattle.script_line.specs.declared.line.Piece.TheVariants.{Text, Of, Fill}
-use Rattle.script_line.specs.Words.{Tables, attributes_of, child_number, cond_of, earlier_number, entry_number, greatest_64, mode_of, op_of, param_of, path_number, poll_of, process_number, thread_number}
+use Rattle.line_forms.specs.declared.line.FdArg.TheVariants.{Number as NumberFd, Of as OfFd}
+use Rattle.line_forms.specs.declared.line.Piece.TheVariants.{Text, Of, Fill}
+use Rattle.line_forms.specs.Words.{Tables, attributes_of, child_number, cond_of, earlier_number, entry_number, greatest_64, mode_of, op_of, param_of, path_number, poll_of, process_number, thread_number}
 use Rattle.line_reader.specs.Combinators.{Reader, pure, misspelling, value_with_rest, value_out_of_range, spelled_value, declared_number, next_word, optional_word, items_to, list_in_range, ◌>>=◌}
 
 -- numbers

@@ -8,10 +8,10 @@ use crate::fault::Fault;
 use crate::operands::Operands;
 use dk_base::request::{AlertMode, Op, Param};
 use dk_base::set::{Attrs, PollSet};
-use script_line::enumerated::{cond_of, mode_of, op_of, param_of};
-use script_line::line::Cond;
-use script_line::reason::Reason;
-use script_line::sets::{poll_of, with_attribute};
+use line_forms::enumerated::{cond_of, mode_of, op_of, param_of};
+use line_forms::line::Cond;
+use line_forms::reason::Reason;
+use line_forms::sets::{poll_of, with_attribute};
 
 impl<'a> Operands<'a> {
     /// POLL

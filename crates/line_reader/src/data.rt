@@ -1,7 +1,7 @@
 //! Operands that are data.
 
 ghost use Rattle.std.specs.Prelude.{◌≡◌, ◌∷◌};
-ghost use Rattle.script_text.specs.Words.{parts_at as parts_of_word};
+ghost use Rattle.line_text.specs.Words.{parts_at as parts_of_word};
 ghost use Rattle.line_reader.specs.Operands.{text_piece as text_piece_read, variable_piece as variable_piece_read, fill_parts, piece_from_word as piece_from_word_read, pieces as pieces_read, pieces_after as pieces_after_read};
 ghost use Rattle.line_reader.specs.ListContracts.{next_piece as next_piece_read};
 ghost use Rattle.line_reader.specs.OperandContracts.{Reads};
@@ -9,10 +9,10 @@ ghost use Rattle.line_reader.specs.OperandContracts.{Reads};
 use crate::fault::Fault;
 use crate::operands::Operands;
 use dk_base::list::Sequence;
-use script_line::line::{Piece, PieceList};
-use script_line::reason::Reason;
-use script_text::parts::parts_at;
-use script_text::string::string_of;
+use line_forms::line::{Piece, PieceList};
+use line_forms::reason::Reason;
+use line_text::parts::parts_at;
+use line_text::string::string_of;
 use std::alloc::Global;
 
 impl<'a> Operands<'a> {

@@ -1,7 +1,7 @@
 //! Operands that are descriptors.
 
 ghost use Rattle.std.specs.Prelude.{◌≡◌, ◌≤◌, ◌<◌, length, codes, IfOk, IfSome};
-ghost use Rattle.script_text.specs.Words.{part_before_last as front_of_word, parts_at as parts_of_word};
+ghost use Rattle.line_text.specs.Words.{part_before_last as front_of_word, parts_at as parts_of_word};
 ghost use Rattle.line_reader.specs.Operands.{number as number_read, number_from_word as number_from_word_read, variable_parts, descriptor_number as descriptor_number_read, name_from_word as name_from_word_read, fd_from_word as fd_from_word_read, fd as fd_read, pass_from_word as pass_from_word_read, is_rsize, is_no_stop, passes as passes_read, rsize as rsize_read, ports as ports_read};
 ghost use Rattle.line_reader.specs.Combinators.{list_in_range, items_to};
 ghost use Rattle.line_reader.specs.ListContracts.{is_at_stop, next_item};
@@ -10,9 +10,9 @@ ghost use Rattle.line_reader.specs.OperandContracts.{Reads};
 use crate::fault::Fault;
 use crate::operands::Operands;
 use dk_base::list::{Bytes, Sequence};
-use script_line::line::{FdArg, FdArgList, PassArg, PassArgList};
-use script_line::reason::Reason;
-use script_text::parts::{part_before_last, parts_at};
+use line_forms::line::{FdArg, FdArgList, PassArg, PassArgList};
+use line_forms::reason::Reason;
+use line_text::parts::{part_before_last, parts_at};
 use std::alloc::Global;
 
 impl<'a> Operands<'a> {

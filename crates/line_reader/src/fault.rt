@@ -1,5 +1,5 @@
 use dk_base::error::NoMemory;
-use script_line::reason::Reason;
+use line_forms::reason::Reason;
 use thiserror::Error;
 
 /// Why a line was not read.

@@ -10,9 +10,9 @@ use crate::fault::Fault;
 use crate::operands::Operands;
 use dk_base::list::{Bytes, TidList};
 use dk_base::number::Pid;
-use script_line::keyword::Keyword;
-use script_line::line::Line;
-use script_line::tables::Tables;
+use line_forms::keyword::Keyword;
+use line_forms::line::Line;
+use line_forms::tables::Tables;
 use std::alloc::Global;
 use std::marker::Model;
 
@@ -32,7 +32,7 @@ impl<'a> Model for LineRest<'a> {
 }
 
 impl<'a> LineRest<'a> {
-    ghost use Rattle.script_text.specs.Words.{words_of};
+    ghost use Rattle.line_text.specs.Words.{words_of};
 
     /// All words of a line.
     pub fn new(line: &'a [u8]) -> Self

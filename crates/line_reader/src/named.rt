@@ -11,7 +11,7 @@ use crate::fault::Fault;
 use crate::operands::Operands;
 use dk_base::list::{Bytes, Sequence, TidList};
 use dk_base::number::{PathId, Pid, Tid};
-use script_line::tables::Tables;
+use line_forms::tables::Tables;
 use std::alloc::Global;
 
 impl<'a> Operands<'a> {

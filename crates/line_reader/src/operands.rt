@@ -5,10 +5,10 @@ ghost use Rattle.line_reader.specs.ListContracts.{any_word};
 ghost use Rattle.line_reader.specs.OperandContracts.{Reads, Fails, Gives, first_word};
 
 use crate::fault::Fault;
-use script_line::reason::Reason;
-use script_text::names::is_name;
-use script_text::number::{Number, bounded_number};
-use script_text::words;
+use line_forms::reason::Reason;
+use line_text::names::is_name;
+use line_text::number::{Number, bounded_number};
+use line_text::words;
 use std::marker::Model;
 
 /// The words of a line that are still to be read; whether each number so far was in its range, and whether each name so
@@ -21,7 +21,7 @@ pub struct Operands<'a> {
 }
 
 impl<'a> Model for Operands<'a> {
-    ghost use Rattle.script_text.specs.Words.{words_of};
+    ghost use Rattle.line_text.specs.Words.{words_of};
     ghost use Rattle.line_reader.specs.Combinators.{Rest};
 
     ghost Value = { Rest };
@@ -30,7 +30,7 @@ impl<'a> Model for Operands<'a> {
 }
 
 impl<'a> Operands<'a> {
-    ghost use Rattle.script_text.specs.Words.{words_of};
+    ghost use Rattle.line_text.specs.Words.{words_of};
 
     /// All words of a line.
     pub fn new(line: &'a [u8]) -> Self

@@ -5,8 +5,8 @@ ghost use Rattle.line_reader.specs.OperandContracts.{Reads};
 
 use crate::fault::Fault;
 use crate::operands::Operands;
-use script_line::line::Line;
-use script_line::tables::Tables;
+use line_forms::line::Line;
+use line_forms::tables::Tables;
 use std::alloc::Global;
 
 impl<'a> Operands<'a> {

@@ -5,9 +5,9 @@ ghost use Rattle.line_reader.specs.OperandContracts.{Reads};
 
 use crate::fault::Fault;
 use crate::operands::Operands;
-use script_line::keyword::Keyword;
-use script_line::line::Line;
-use script_line::tables::Tables;
+use line_forms::keyword::Keyword;
+use line_forms::line::Line;
+use line_forms::tables::Tables;
 use std::alloc::Global;
 
 impl<'a> Operands<'a> {

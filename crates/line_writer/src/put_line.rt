@@ -1,17 +1,17 @@
 //! A line as text.
 
 ghost use Rattle.std.specs.Prelude.{◌≡◌, ◌++◌, IfOk, OnOk, OnErr};
-ghost use Rattle.script_text.specs.Words.{joined_words};
-ghost use Rattle.script_line.specs.Words.{keyword_of_line as keyword_that_begins, line_words};
+ghost use Rattle.line_text.specs.Words.{joined_words};
+ghost use Rattle.line_forms.specs.Words.{keyword_of_line as keyword_that_begins, line_words};
 
 use crate::put_lines::put_line_operands;
 use dk_base::error::NoMemory;
 use dk_base::list::Bytes;
-use script_line::keyword::Keyword;
-use script_line::keyword_words::word_of;
-use script_line::line::Line;
-use script_line::tables::Tables;
-use script_text::writer::Writer;
+use line_forms::keyword::Keyword;
+use line_forms::keyword_words::word_of;
+use line_forms::line::Line;
+use line_forms::tables::Tables;
+use line_text::writer::Writer;
 use std::alloc::Global;
 
 /// The keyword of a line.

@@ -1,7 +1,7 @@
 //! The operands of each line as its further words.
 
 ghost use Rattle.std.specs.Prelude.{◌∷◌, [], ◌++◌, map, codes, decimal};
-ghost use Rattle.script_line.specs.Words.{attribute_words, cond_word as cond_spelling, data_words, desc_words, fd_word, mode_word as mode_spelling, op_word as op_spelling, operand_words, param_word as param_spelling, path_word, poll_word as poll_spelling, procedure_word, process_word, thread_word, value_word, wait_words};
+ghost use Rattle.line_forms.specs.Words.{attribute_words, cond_word as cond_spelling, data_words, desc_words, fd_word, mode_word as mode_spelling, op_word as op_spelling, operand_words, param_word as param_spelling, path_word, poll_word as poll_spelling, procedure_word, process_word, thread_word, value_word, wait_words};
 ghost use Rattle.line_writer.specs.Written.{Puts};
 
 use crate::put_operands::{
@@ -12,11 +12,11 @@ use dk_base::list::Bytes;
 use dk_base::number::PathId;
 use dk_base::request::{AlertMode, Op, Param};
 use dk_base::set::{Attrs, PollSet};
-use script_line::enumerated::{cond_word, mode_word, op_word, param_word};
-use script_line::line::{FdArg, FdArgList, Line, PassArgList, PieceList};
-use script_line::sets::poll_word;
-use script_line::tables::Tables;
-use script_text::writer::Writer;
+use line_forms::enumerated::{cond_word, mode_word, op_word, param_word};
+use line_forms::line::{FdArg, FdArgList, Line, PassArgList, PieceList};
+use line_forms::sets::poll_word;
+use line_forms::tables::Tables;
+use line_text::writer::Writer;
 use std::alloc::Global;
 
 fn put_create(

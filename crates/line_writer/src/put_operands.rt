@@ -1,15 +1,15 @@
 //! Operands as a line's further words.
 
 ghost use Rattle.std.specs.Prelude.{◌≡◌, ◌∷◌, [], ◌++◌, map, flat_map, codes, decimal, OnOk, IfOk};
-ghost use Rattle.script_line.specs.Words.{attribute_flags, attribute_if, attribute_words, bits_of_flags, data_words, desc_words, fd_word as fd_spelling, joined_piece, pass_word as pass_spelling, piece_word as piece_spelling, release_mark, value_word, variable_word as variable_spelling, wait_words};
+ghost use Rattle.line_forms.specs.Words.{attribute_flags, attribute_if, attribute_words, bits_of_flags, data_words, desc_words, fd_word as fd_spelling, joined_piece, pass_word as pass_spelling, piece_word as piece_spelling, release_mark, value_word, variable_word as variable_spelling, wait_words};
 ghost use Rattle.line_writer.specs.Written.{Puts};
 
 use dk_base::error::NoMemory;
 use dk_base::list::{Bytes, Sequence};
 use dk_base::set::Attrs;
-use script_line::line::{FdArg, PassArg, Piece};
-use script_line::sets::{ATTRIBUTES, attribute_word};
-use script_text::writer::Writer;
+use line_forms::line::{FdArg, PassArg, Piece};
+use line_forms::sets::{ATTRIBUTES, attribute_word};
+use line_text::writer::Writer;
 use std::alloc::Global;
 
 /// Puts a number after other bytes, in decimal.
@@ -187,7 +187,7 @@ fn put_attribute_words(text: &mut Writer, set: u32) -> Result<(), NoMemory>
 }
 
 /// ATTR .., in the table's order.
-#[tactic(auto, using(script_line::proofs::FlagsOfSet::attribute_words_put))]
+#[tactic(auto, using(line_forms::proofs::FlagsOfSet::attribute_words_put))]
 pub fn put_attributes(text: &mut Writer, attrs: Attrs) -> Result<(), NoMemory>
     ensures { Puts (attribute_words attrs) text.old result text.new }
 {

@@ -3,10 +3,10 @@ use Rattle.std.proofs.Common.{◌≡◌, ◌≤◌, ◌==◌, ℕ, zero, suc, tr
 use Rattle.std.specs.Fmt.{digits}
 use Rattle.std.specs.List.{list_all}
 use Rattle.std.proofs.lemmas.Bool.{and_from}
-use Rattle.script_text.specs.Words.{is_one_line, text_of_lines}
-use Rattle.script_text.proofs.PrintableWords.{is_one_line-printable}
-use Rattle.script_text.proofs.TextLines.{lines_of-text_of_lines}
-use Rattle.script_line.specs.Words.{Tables}
+use Rattle.line_text.specs.Words.{is_one_line, text_of_lines}
+use Rattle.line_text.proofs.PrintableWords.{is_one_line-printable}
+use Rattle.line_text.proofs.TextLines.{lines_of-text_of_lines}
+use Rattle.line_forms.specs.Words.{Tables}
 use Rattle.script_lang.specs.declared.item.ScriptLine.{ScriptLine}
 use Rattle.script_lang.specs.Context.{ContextValue, context_after, first_context}
 use Rattle.script_lang.specs.Parsing.{parse_result}

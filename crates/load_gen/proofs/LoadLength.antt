@@ -2,7 +2,7 @@
 use Rattle.std.proofs.Common.{◌<◌, ◌≤◌, ◌==◌, ℕ, Bool, true, false, List, [], ◌∷◌, ◌++◌, length, codes, decimal, if◌then◌else◌, arith}
 use Rattle.std.proofs.lemmas.Fmt.{length-decimal-le_succ}
 use Rattle.std.proofs.lemmas.List.{length-append}
-use Rattle.script_text.specs.Words.{text_of_lines}
+use Rattle.line_text.specs.Words.{text_of_lines}
 use Rattle.load_gen.specs.Loads.{load_calls}
 use Rattle.load_gen.specs.LoadText.{client_lines, client_text, first_lines, load_text}
 

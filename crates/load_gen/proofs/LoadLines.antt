@@ -1,7 +1,7 @@
 -- The text of a load is the text of lines.
 use Rattle.std.proofs.Common.{◌≡◌, ◌==◌, ℕ, Bool, true, false, cond, not, if◌then◌else◌, List, [], ◌∷◌, ◌++◌, codes, filter, flat_map, refl, sym, ap, ◌∙◌}
-use Rattle.script_text.specs.Words.{text_of_lines}
-use Rattle.script_text.proofs.TextLines.{text_of_lines-append}
+use Rattle.line_text.specs.Words.{text_of_lines}
+use Rattle.line_text.proofs.TextLines.{text_of_lines-append}
 use Rattle.load_gen.specs.Loads.{Client, client, clients_of, has_calls, load_calls}
 use Rattle.load_gen.specs.LoadText.{client_lines, client_text, first_lines, load_text}
 

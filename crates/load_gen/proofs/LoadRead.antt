@@ -2,9 +2,9 @@
 use Rattle.std.proofs.Common.{◌≡◌, ◌≤◌, ℕ, List, [], ◌∷◌, ◌++◌, slice_get, Some, codes, flat_map, refl, inl, inr, arith}
 use Rattle.std.specs.Fmt.{digits}
 use Rattle.dk_base.specs.declared.limits.TheConstants.{BUDGET_MAX, DESCRIPTORS_MAX}
-use Rattle.script_line.specs.Words.{Tables, qualified_name}
-use Rattle.script_line.specs.declared.line.Line.TheVariants.{Attach, Close, Create, End, Return, Serve}
-use Rattle.script_line.specs.declared.line.Piece.TheVariants.{Of}
+use Rattle.line_forms.specs.Words.{Tables, qualified_name}
+use Rattle.line_forms.specs.declared.line.Line.TheVariants.{Attach, Close, Create, End, Return, Serve}
+use Rattle.line_forms.specs.declared.line.Piece.TheVariants.{Of}
 use Rattle.script_lang.specs.declared.item.ScriptLine.{ScriptLine}
 use Rattle.script_lang.specs.declared.item.ScriptLine.TheVariants.{Budget, Do, Procedure, Process, Thread}
 use Rattle.script_lang.specs.Context.{first_context}

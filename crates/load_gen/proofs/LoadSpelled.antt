@@ -1,12 +1,12 @@
 -- The text of a load spells its script.
 use Rattle.std.proofs.Common.{◌≡◌, ◌≤◌, ℕ, true, false, nat_le, List, [], ◌∷◌, ◌++◌, map, length, slice_get, Some, codes, decimal, refl, sym, subst, inl, inr, arith}
 use Rattle.dk_base.specs.declared.limits.TheConstants.{THREADS_MAX}
-use Rattle.script_text.specs.Words.{SpellsString, has_name, is_name, joined_words, words_of}
-use Rattle.script_text.proofs.DecimalWords.{is_plain-decimal}
-use Rattle.script_text.proofs.JoinedWords.{words_of-joined_words, is_word-plain}
-use Rattle.script_text.proofs.PrintableWords.{are_printable-decimal}
-use Rattle.script_line.specs.Words.{Tables}
-use Rattle.script_line.specs.declared.line.Line.TheVariants.{End, Repeat}
+use Rattle.line_text.specs.Words.{SpellsString, has_name, is_name, joined_words, words_of}
+use Rattle.line_text.proofs.DecimalWords.{is_plain-decimal}
+use Rattle.line_text.proofs.JoinedWords.{words_of-joined_words, is_word-plain}
+use Rattle.line_text.proofs.PrintableWords.{are_printable-decimal}
+use Rattle.line_forms.specs.Words.{Tables}
+use Rattle.line_forms.specs.declared.line.Line.TheVariants.{End, Repeat}
 use Rattle.script_lang.specs.declared.item.ScriptLine.{ScriptLine}
 use Rattle.script_lang.specs.declared.item.ScriptLine.TheVariants.{Thread, Do}
 use Rattle.script_lang.specs.declared.item.ScriptPlace.TheVariants.{Members}

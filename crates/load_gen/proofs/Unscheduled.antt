@@ -1,6 +1,6 @@
 -- The script of a load has no schedule.
 use Rattle.std.proofs.Common.{◌≡◌, ℕ, None, refl}
-use Rattle.written_script.specs.Words.{refusal}
+use Rattle.spec_scripts.specs.Words.{refusal}
 use Rattle.load_gen.specs.Loads.{load_script}
 
 pub never_refused : (n : ℕ) → refusal (load_script n) ≡ None

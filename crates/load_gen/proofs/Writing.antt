@@ -1,6 +1,6 @@
 -- What is written piece by piece is the text of a load.
 use Rattle.std.proofs.Common.{◌≡◌, ℕ, Result, Ok, Err, OnOk, List, [], ◌∷◌, ◌++◌, codes, decimal, refl, ap, ◌∙◌}
-use Rattle.script_text.specs.Words.{text_of_lines}
+use Rattle.line_text.specs.Words.{text_of_lines}
 use Rattle.load_gen.specs.Loads.{load_calls}
 use Rattle.load_gen.specs.LoadText.{client_lines, client_text, first_lines, load_text}
 

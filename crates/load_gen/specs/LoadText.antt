@@ -1,6 +1,6 @@
 -- A text that spells the script of a load.
 use Rattle.std.specs.Prelude.{ℕ, ◌==◌, if◌then◌else◌, List, [], ◌∷◌, ◌++◌, codes, decimal}
-use Rattle.script_text.specs.Words.{joined_words, text_of_lines}
+use Rattle.line_text.specs.Words.{joined_words, text_of_lines}
 use Rattle.load_gen.specs.Loads.{load_calls}
 
 -- the lines of the server's process, and the first of the clients' process

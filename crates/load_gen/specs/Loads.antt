@@ -1,11 +1,11 @@
 -- The script of a load: a server whose procedure closes the descriptor that it was given and returns the bytes, and one to
 -- four clients that make the calls.
 use Rattle.std.specs.Prelude.{ℕ, ◌+◌, ◌-◌, ◌/◌, ◌==◌, not, Bool, true, false, List, [], ◌∷◌, None, map, filter, codes}
-use Rattle.script_text.specs.Types.{Attrs, PathId}
+use Rattle.line_text.specs.Types.{Attrs, PathId}
 use Rattle.script_lang.specs.Types.{FdArg, Line, PassArg}
-use Rattle.script_line.specs.declared.line.FdArg.TheVariants.{Of as OfVariable}
-use Rattle.script_line.specs.declared.line.Piece.TheVariants.{Text, Of}
-use Rattle.script_line.specs.declared.line.Line.TheVariants.{Create, Attach, Serve, Close, Return, Open, Repeat, Dup, Call, End}
+use Rattle.line_forms.specs.declared.line.FdArg.TheVariants.{Of as OfVariable}
+use Rattle.line_forms.specs.declared.line.Piece.TheVariants.{Text, Of}
+use Rattle.line_forms.specs.declared.line.Line.TheVariants.{Create, Attach, Serve, Close, Return, Open, Repeat, Dup, Call, End}
 use Rattle.script_lang.specs.declared.script.Part.{Part}
 use Rattle.script_lang.specs.declared.script.Part.TheVariants.{Process as ProcessPart, Thread as ThreadPart, Procedure as ProcedurePart}
 use Rattle.script_lang.specs.declared.script.Procedure.{Procedure as ScriptProcedure}

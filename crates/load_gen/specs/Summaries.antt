@@ -1,12 +1,12 @@
 -- The line that tells of a run of a load.
 use Rattle.std.specs.Prelude.{ℕ, Bool, true, false, ◌&&◌, ◌++◌, List, length, count_by, codes, decimal}
-use Rattle.script_requests.specs.Types.{Event}
+use Rattle.spec_requests.specs.Types.{Event}
 use Rattle.dk_base.specs.declared.answer.Answer.{Answer}
 use Rattle.dk_base.specs.declared.answer.Answer.TheVariants.{WaitCall, Results}
 use Rattle.dk_base.specs.declared.event.What.{What}
 use Rattle.dk_base.specs.declared.event.What.TheVariants.{Call, Collect}
-use Rattle.script_requests.specs.Words.{ending_word}
-use Rattle.written_script.specs.Words.{History, ending_of}
+use Rattle.spec_requests.specs.Words.{ending_word}
+use Rattle.spec_scripts.specs.Words.{History, ending_of}
 
 abbrev pub is_call : What → Bool
 is_call Call = true

@@ -1,6 +1,6 @@
 -- What is counted of events.
 use Rattle.std.specs.Prelude.{ℕ, ◌≡◌, List, count_by, length}
-use Rattle.script_requests.specs.Types.{Event}
+use Rattle.spec_requests.specs.Types.{Event}
 use Rattle.load_gen.specs.Summaries.{collects_results, makes_call}
 use Rattle.load_gen.specs.declared.summary_line.Tally.{Tally}
 

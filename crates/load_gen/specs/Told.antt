@@ -1,7 +1,7 @@
 -- What is told of a run of a load.
 use Rattle.std.specs.Prelude.{ℕ, ◌≡◌, None}
 use Rattle.script_lang.specs.Words.{ScriptValue}
-use Rattle.written_script.specs.Words.{ending_of, refusal}
+use Rattle.spec_scripts.specs.Words.{ending_of, refusal}
 use Rattle.sys_run.specs.Words.{IsPlay, LawsOf, SysValue, history}
 use Rattle.load_gen.specs.Summaries.{summary_of}
 use Rattle.load_gen.specs.declared.summary_line.SummaryLine.{SummaryLine}

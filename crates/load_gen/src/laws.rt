@@ -2,7 +2,7 @@
 
 ghost use Rattle.std.specs.Prelude.{◌≡◌, ◌≤◌, ℕ, None};
 ghost use Rattle.script_lang.specs.Words.{spells};
-ghost use Rattle.written_script.specs.Words.{refusal};
+ghost use Rattle.spec_scripts.specs.Words.{refusal};
 ghost use Rattle.load_gen.specs.Loads.{load_script};
 ghost use Rattle.load_gen.specs.LoadText.{load_text};
 

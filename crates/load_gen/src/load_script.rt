@@ -1,7 +1,7 @@
 //! The script of a load. It is written as a text, and read.
 
 ghost use Rattle.std.specs.Prelude.{◌≡◌, ◌≤◌, ◌/◌, ◌+◌, ◌-◌, ◌++◌, IfOk, OnOk};
-ghost use Rattle.script_text.specs.Words.{text_of_lines};
+ghost use Rattle.line_text.specs.Words.{text_of_lines};
 ghost use Rattle.script_lang.specs.Words.{spells};
 ghost use Rattle.load_gen.specs.declared.load_script.TheConstants.{CALLS_MAX};
 ghost use Rattle.load_gen.specs.Loads.{load_script, load_calls};
@@ -9,10 +9,10 @@ ghost use Rattle.load_gen.specs.LoadText.{client_lines, client_text, load_text};
 
 use dk_base::error::NoMemory;
 use dk_base::list::Bytes;
+use line_text::writer::Writer;
 use script_lang::bad::ParseFault;
 use script_lang::parse::parse;
 use script_lang::script::Script;
-use script_text::writer::Writer;
 use std::alloc::Global;
 
 /// The most calls of a load.

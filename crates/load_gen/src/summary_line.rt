@@ -2,9 +2,9 @@
 
 ghost use Rattle.std.specs.Prelude.{◌≡◌, ◌<◌, ◌++◌, ◌∷◌, [], List, None, length, IfOk, OnOk, decimal};
 ghost use Rattle.dk_base.specs.declared.limits.TheConstants.{BUDGET_MAX};
-ghost use Rattle.script_requests.specs.Types.{Event as EventValue};
-ghost use Rattle.script_requests.specs.Words.{ending_word};
-ghost use Rattle.written_script.specs.Words.{History, ending_of, refusal};
+ghost use Rattle.spec_requests.specs.Types.{Event as EventValue};
+ghost use Rattle.spec_requests.specs.Words.{ending_word};
+ghost use Rattle.spec_scripts.specs.Words.{History, ending_of, refusal};
 ghost use Rattle.sys_run.specs.Words.{IsPlay, LawsOf, history};
 ghost use Rattle.load_gen.specs.Summaries.{collects_results, makes_call, summary_of};
 ghost use Rattle.load_gen.specs.Tallies.{IsTallyOf};
@@ -15,7 +15,7 @@ use dk_base::error::NoMemory;
 use dk_base::event::{Event, What};
 use dk_base::list::Bytes;
 use itoa::Buffer;
-use script_requests::ending::Ending;
+use spec_requests::ending::Ending;
 use std::alloc::Global;
 use sys_run::playing::{Playing, Told};
 

@@ -6,8 +6,8 @@ use Rattle.std.proofs.lemmas.Map.Keys.{IsDistinct-head, IsDistinct-tail}
 use Rattle.std.specs.List.{AllByRecursion, IsDistinct}
 use Rattle.std.specs.Map.{keys_of, lookup, remove_entry}
 use Rattle.dk_base.specs.declared.number.PathId.{PathId}
-use Rattle.kernel_records.specs.declared.record.Name.{Name}
-use Rattle.kernel_records.specs.Words.{name_in, with_name, without_name}
+use Rattle.spec_records.specs.declared.record.Name.{Name}
+use Rattle.spec_records.specs.Words.{name_in, with_name, without_name}
 use Rattle.name_space.specs.NameTable.{attached_door, door_of_name, name_of_entry, names_in, path_number}
 
 either_way : (a b : ℕ) → (a == b) ≡ nat_eq b a

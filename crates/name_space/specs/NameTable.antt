@@ -2,8 +2,8 @@
 use Rattle.std.specs.Prelude.{◌<◌, ℕ, List, Option, map, nat_eq, option_map}
 use Rattle.std.specs.List.{IsDistinct}
 use Rattle.dk_base.specs.declared.number.PathId.{PathId}
-use Rattle.kernel_records.specs.declared.record.Name.{Name}
-use Rattle.kernel_records.specs.Words.{name_in}
+use Rattle.spec_records.specs.declared.record.Name.{Name}
+use Rattle.spec_records.specs.Words.{name_in}
 
 -- the names in the order in which they were attached, and how many more take no memory
 pub record NameTable : Type 0 where

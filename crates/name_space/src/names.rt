@@ -1,12 +1,12 @@
 //! The doors attached to paths: fattach(3C), fdetach(3C), and open(2) of such a path.
 ghost use Rattle.std.specs.Prelude.{◌≡◌, ◌+◌, ◌<◌, ◌≤◌, ◌^◌, [], false, if◌then◌else◌, is_ok, is_some, length, ok_or, slice_get, IsOk, OnOk, OnErr};
-ghost use Rattle.kernel_records.specs.Words.{name_in, with_name, without_name};
+ghost use Rattle.spec_records.specs.Words.{name_in, with_name, without_name};
 ghost use Rattle.name_space.specs.NameTable.{HasRoomForName, HaveDistinctPaths, attached_door};
 
 use dk_base::error::{Errno, NoMemory};
 use dk_base::number::PathId;
 use indexmap::IndexMap;
-use kernel_records::record::Name;
+use spec_records::record::Name;
 use std::alloc::Global;
 use std::marker::Model;
 

@@ -2,8 +2,8 @@
 use Rattle.std.proofs.Common.{◌≡◌, ℕ, ◌+◌, ◌==◌, ◌&&◌, Bool, true, false, cond, List, [], ◌∷◌, Option, Some, None, length, nat_le, refl, ap, ◌∙◌, arith}
 use Rattle.std.specs.List.{list_all, onto_first}
 use Rattle.std.proofs.lemmas.Bool.Decides.{nat_tests}
-use Rattle.script_text.specs.Words.{parts_at}
-use Rattle.script_text.specs.Parts.{with_first}
+use Rattle.line_text.specs.Words.{parts_at}
+use Rattle.line_text.specs.Parts.{with_first}
 use Rattle.ncd_app.specs.Commands.{command_about_two, command_in, is_visible, is_word, parts_of}
 use Rattle.ncd_app.specs.declared.line.Command.TheVariants.{Bad}
 use Rattle.ncd_app.specs.declared.line.Command.{Command}

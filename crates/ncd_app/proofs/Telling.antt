@@ -4,7 +4,7 @@ use Rattle.std.proofs.lemmas.List.{length-take, map-append, take-append-le, take
 use Rattle.std.proofs.lemmas.List.Elements.{filter-append}
 use Rattle.std.specs.Prelude.{Some, codes}
 use Rattle.std.specs.Map.{keys_of}
-use Rattle.script_text.specs.Words.{spaced_words}
+use Rattle.line_text.specs.Words.{spaced_words}
 use Rattle.ncd_app.specs.Definition.{has_value, listed, words_after}
 use Rattle.ncd_app.specs.Table.{IsTold, Pairs, keys_with}
 use Rattle.ncd_app.specs.declared.line.Record.{Record}

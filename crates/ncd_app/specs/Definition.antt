@@ -6,7 +6,7 @@ use Rattle.std.specs.Cmp.Lexicographic.{slice_cmp}
 use Rattle.std.specs.List.{list_any}
 use Rattle.std.specs.Option.{unwrap_or}
 use Rattle.std.specs.Ordering.{nat_cmp}
-use Rattle.script_text.specs.Words.{spaced_words}
+use Rattle.line_text.specs.Words.{spaced_words}
 use Rattle.ncd_app.specs.Commands.{asks, command_of}
 use Rattle.ncd_app.specs.declared.line.Change.{Change}
 use Rattle.ncd_app.specs.declared.line.Command.TheVariants as command

@@ -4,7 +4,7 @@ ghost use Rattle.std.specs.List.{list_all};
 ghost use Rattle.ncd_app.specs.Commands.{asks, command_about_two, command_in, command_of as command_of_line, is_visible as is_visible_byte, is_word as is_word_of_line, parts_of};
 
 use crate::text::Text;
-use script_text::parts::parts_at;
+use line_text::parts::parts_at;
 
 /// What a key stands for.
 #[derive(Drop)]

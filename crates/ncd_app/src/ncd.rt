@@ -11,7 +11,7 @@ use crate::table::Table;
 use crate::text::Text;
 use dk_base::error::NoMemory;
 use dk_base::list::Bytes;
-use script_text::writer::Writer;
+use line_text::writer::Writer;
 use std::alloc::Global;
 use std::marker::Model;
 

@@ -8,7 +8,7 @@ use crate::line::{Change, Question, Record};
 use crate::text::Text;
 use dk_base::error::NoMemory;
 use dk_base::list::Bytes;
-use script_text::writer::Writer;
+use line_text::writer::Writer;
 use std::alloc::Global;
 use std::collections::BTreeMap;
 use std::marker::Model;

@@ -1,6 +1,6 @@
 //! What depends on how many bytes a pipe holds, and on the references of its other end, alone.
 ghost use Rattle.std.specs.Prelude.{◌≡◌, ℕ, List, length};
-ghost use Rattle.kernel_records.specs.Words.{events_where, first_refusal, read_tests, ready_in, ready_out, write_tests};
+ghost use Rattle.spec_records.specs.Words.{events_where, first_refusal, read_tests, ready_in, ready_out, write_tests};
 
 use dk_base::error::Errno;
 use dk_base::limits::PIPE_MAX;

@@ -1,7 +1,7 @@
 //! A pipe with its number.
 ghost use Rattle.std.specs.Prelude.{◌≡◌, ◌+◌, ◌≤◌, ◌++◌, length, min};
 ghost use Rattle.dk_base.specs.declared.limits.TheConstants.{PIPE_MAX};
-ghost use Rattle.kernel_records.specs.Words.{fitting, oldest, without_oldest, written};
+ghost use Rattle.spec_records.specs.Words.{fitting, oldest, without_oldest, written};
 
 use crate::pipe::Pipe;
 use dk_base::list::Room;
@@ -15,7 +15,7 @@ pub struct NumberedPipe {
 }
 
 impl Model for NumberedPipe {
-    ghost use Rattle.kernel_records.specs.Words.{Pipe};
+    ghost use Rattle.spec_records.specs.Words.{Pipe};
 
     ghost Value = { Pipe };
 

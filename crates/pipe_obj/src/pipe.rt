@@ -1,7 +1,7 @@
 //! One pipe: pipe(2), read(2), write(2), and what its ends are ready for.
 ghost use Rattle.std.specs.Prelude.{◌≡◌, ◌+◌, ◌-◌, ◌<◌, ◌≤◌, ◌++◌, [], None, Some, IfErr, IfOk, OnErr, OnOk, drop, length, min};
 ghost use Rattle.dk_base.specs.declared.limits.TheConstants.{PIPE_MAX};
-ghost use Rattle.kernel_records.specs.Words.{first_refusal, fitting, oldest, read_tests, ready_in, ready_out, write_tests};
+ghost use Rattle.spec_records.specs.Words.{first_refusal, fitting, oldest, read_tests, ready_in, ready_out, write_tests};
 
 use crate::held;
 use circular_buffer::HeapCircularBuffer;

@@ -1,7 +1,7 @@
 //! The pipes of a kernel.
 ghost use Rattle.std.specs.Prelude.{◌≡◌, ◌+◌, ◌<◌, ◌≤◌, ◌++◌, [], OnOk, length, min};
 ghost use Rattle.dk_base.specs.declared.limits.TheConstants.{EVENTS_MAX, PIPE_MAX};
-ghost use Rattle.kernel_records.specs.Words.{bytes_of, first_refusal, fitting, make_pipe, oldest, read_pipe, read_tests, ready_in, ready_out, write_pipe, write_tests};
+ghost use Rattle.spec_records.specs.Words.{bytes_of, first_refusal, fitting, make_pipe, oldest, read_pipe, read_tests, ready_in, ready_out, write_pipe, write_tests};
 
 use crate::held;
 use crate::numbered::NumberedPipe;
@@ -10,7 +10,7 @@ use dk_base::error::{Errno, NoMemory};
 use dk_base::limits::PIPE_MAX;
 use dk_base::list::Room;
 use dk_base::set::PollSet;
-use kernel_records::numbered::{numbered_item, place_of};
+use spec_records::numbered::{numbered_item, place_of};
 use std::alloc::Global;
 use std::marker::Model;
 
@@ -26,7 +26,7 @@ pub struct Pipes {
 impl Model for Pipes {
     ghost use Rattle.std.specs.Prelude.{◌≡◌, ◌-◌, IfSome, [], if◌then◌else◌, is_some, min, vec_capacity, vec_len};
     ghost use Rattle.dk_base.specs.Spare.{RoomValue};
-    ghost use Rattle.kernel_records.specs.Words.{Pipe};
+    ghost use Rattle.spec_records.specs.Words.{Pipe};
 
     ghost Value = { RoomValue Pipe };
 

@@ -2,9 +2,9 @@
 use Rattle.std.proofs.Common.{◌≡◌, Bool, true, false, if◌then◌else◌, List, [], ◌∷◌, None, Some, find, filter, not, refl, sym, ap, ◌∙◌, arith}
 use Rattle.std.specs.List.{cons_option}
 use Rattle.std.proofs.lemmas.Bool.Decides.{nat_tests}
-use Rattle.kernel_records.specs.declared.association.AssocKey.{AssocKey}
-use Rattle.kernel_records.specs.declared.association.Association.{Association}
-use Rattle.kernel_records.specs.Words.{association_at, change_first, has_key, has_other_key, is_same_association_key}
+use Rattle.spec_records.specs.declared.association.AssocKey.{AssocKey}
+use Rattle.spec_records.specs.declared.association.Association.{Association}
+use Rattle.spec_records.specs.Words.{association_at, change_first, has_key, has_other_key, is_same_association_key}
 use Rattle.port_assoc.proofs.Lists.{none-of, others-alone}
 use Rattle.port_assoc.specs.Lists.{without_first}
 use Rattle.port_assoc.specs.Table.{HaveDistinctKeys}

@@ -4,9 +4,9 @@ use Rattle.std.proofs.lemmas.Bool.Decides.{nat_tests}
 use Rattle.std.proofs.lemmas.Map.Entries.{lookup-filter-keys}
 use Rattle.std.specs.Map.{lookup}
 use Rattle.dk_base.specs.declared.number.Fd.{Fd}
-use Rattle.kernel_records.specs.declared.association.AssocKey.{AssocKey}
-use Rattle.kernel_records.specs.declared.association.Association.{Association}
-use Rattle.kernel_records.specs.Words.{IsAscending, association_at, association_number, change_first, disarmed, has_key, is_of_other_process, is_of_row}
+use Rattle.spec_records.specs.declared.association.AssocKey.{AssocKey}
+use Rattle.spec_records.specs.declared.association.Association.{Association}
+use Rattle.spec_records.specs.Words.{IsAscending, association_at, association_number, change_first, disarmed, has_key, is_of_other_process, is_of_row}
 use Rattle.port_assoc.specs.declared.key.Row.{Row}
 use Rattle.port_assoc.specs.Keys.{row_at, same_row}
 use Rattle.port_assoc.specs.Lists.{without_first}

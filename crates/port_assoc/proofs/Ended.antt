@@ -1,8 +1,8 @@
 -- The list of associations as some end.
 use Rattle.std.proofs.Common.{◌≡◌, None, Some, filter, sym, ◌∙◌}
-use Rattle.kernel_records.specs.declared.association.AssocKey.{AssocKey}
-use Rattle.kernel_records.specs.declared.association.Association.{Association}
-use Rattle.kernel_records.specs.Words.{AssociationList, association_at, dissociate, has_key, has_other_key}
+use Rattle.spec_records.specs.declared.association.AssocKey.{AssocKey}
+use Rattle.spec_records.specs.declared.association.Association.{Association}
+use Rattle.spec_records.specs.Words.{AssociationList, association_at, dissociate, has_key, has_other_key}
 use Rattle.port_assoc.specs.Lists.{without_first}
 use Rattle.port_assoc.specs.Table.{HaveDistinctKeys}
 use Rattle.port_assoc.proofs.Apart.{all_of_key, left_by_key}

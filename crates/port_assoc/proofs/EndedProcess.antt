@@ -2,8 +2,8 @@
 use Rattle.std.proofs.Common.{◌≡◌, ℕ, zero, suc, ◌+◌, ◌<◌, ◌≤◌, not, Bool, true, false, if◌then◌else◌, List, [], ◌∷◌, ◌++◌, None, Some, find, filter, drop, length, map, slice_get, refl, sym, subst, ap, ◌∙◌, arith}
 use Rattle.std.proofs.lemmas.Bool.Decides.{nat_tests}
 use Rattle.dk_base.specs.declared.object.Obj.{Obj}
-use Rattle.kernel_records.specs.declared.association.Association.{Association}
-use Rattle.kernel_records.specs.Words.{has_key, is_of_other_process, is_of_process, is_watcher}
+use Rattle.spec_records.specs.declared.association.Association.{Association}
+use Rattle.spec_records.specs.Words.{has_key, is_of_other_process, is_of_process, is_watcher}
 use Rattle.port_assoc.specs.declared.key.Key.{Key}
 use Rattle.port_assoc.specs.declared.watch.Watch.{Watch}
 use Rattle.port_assoc.specs.Lists.{without_first}

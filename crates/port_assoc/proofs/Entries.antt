@@ -7,10 +7,10 @@ use Rattle.std.proofs.lemmas.Map.Keys.{IsDistinct-head, IsDistinct-tail}
 use Rattle.std.specs.List.{AllByRecursion, IsDistinct, position_or_len}
 use Rattle.std.specs.Map.{keys_of, lookup, remove_entry, set_value}
 use Rattle.dk_base.specs.declared.number.Fd.{Fd}
-use Rattle.kernel_records.specs.declared.association.AssocKey.{AssocKey}
-use Rattle.kernel_records.specs.declared.association.Association.{Association}
-use Rattle.kernel_records.specs.Words.{armed_at, association_at, change_first, disarmed, has_key, is_armed_at, is_of_row, is_same_association_key}
-use Rattle.kernel_records.proofs.Places.{change_first-none}
+use Rattle.spec_records.specs.declared.association.AssocKey.{AssocKey}
+use Rattle.spec_records.specs.declared.association.Association.{Association}
+use Rattle.spec_records.specs.Words.{armed_at, association_at, change_first, disarmed, has_key, is_armed_at, is_of_row, is_same_association_key}
+use Rattle.spec_records.proofs.Places.{change_first-none}
 use Rattle.port_assoc.specs.declared.key.Key.{Key}
 use Rattle.port_assoc.specs.declared.watch.Watch.{Watch}
 use Rattle.port_assoc.specs.Keys.{association_key, key_of, same_key}

@@ -3,8 +3,8 @@ use Rattle.std.proofs.Common.{◌≡◌, ℕ, suc, ◌+◌, ◌<◌, ◌≤◌, 
 use Rattle.std.specs.List.{position_or_len}
 use Rattle.std.proofs.lemmas.Bool.Decides.{nat_tests}
 use Rattle.std.proofs.lemmas.List.Folds.{find_at}
-use Rattle.kernel_records.specs.Words.{change_first}
-use Rattle.kernel_records.proofs.Places.{position_is}
+use Rattle.spec_records.specs.Words.{change_first}
+use Rattle.spec_records.proofs.Places.{position_is}
 use Rattle.port_assoc.specs.Lists.{without_first}
 
 -- by its place

@@ -1,8 +1,8 @@
 -- The numbers of associations go up.
 use Rattle.std.proofs.Common.{◌≡◌, ℕ, ◌+◌, ◌<◌, Bool, true, false, if◌then◌else◌, List, [], ◌∷◌, ◌++◌, refl, subst, arith}
-use Rattle.kernel_records.specs.declared.association.Association.{Association}
-use Rattle.kernel_records.specs.Words.{IsAscending, association_number, change_first, disarmed}
-use Rattle.kernel_records.proofs.NumberedLists.{ascending-change_first, ascending-lower, ascending-push}
+use Rattle.spec_records.specs.declared.association.Association.{Association}
+use Rattle.spec_records.specs.Words.{IsAscending, association_number, change_first, disarmed}
+use Rattle.spec_records.proofs.NumberedLists.{ascending-change_first, ascending-lower, ascending-push}
 use Rattle.port_assoc.specs.Lists.{without_first}
 
 pub numbers_left :

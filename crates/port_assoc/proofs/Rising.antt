@@ -2,8 +2,8 @@
 use Rattle.std.proofs.Common.{◌≡◌, ℕ, zero, suc, ◌<◌, ◌≤◌, nat_lt, not, Bool, true, false, if◌then◌else◌, List, [], ◌∷◌, Option, None, Some, find, filter, get_or, length, slice_get, refl, sym, ap, ◌∙◌, arith}
 use Rattle.std.proofs.lemmas.Bool.Decides.{nat_tests}
 use Rattle.std.specs.List.Sorted.{IsPartitionPoint, IsPartitionedBy}
-use Rattle.kernel_records.specs.declared.association.Association.{Association}
-use Rattle.kernel_records.specs.Words.{IsAscending, association_number, has_number, has_other_number}
+use Rattle.spec_records.specs.declared.association.Association.{Association}
+use Rattle.spec_records.specs.Words.{IsAscending, association_number, has_number, has_other_number}
 use Rattle.port_assoc.specs.declared.key.Key.{Key}
 use Rattle.port_assoc.specs.declared.watch.Watch.{Watch}
 use Rattle.port_assoc.specs.Lists.{without_first}

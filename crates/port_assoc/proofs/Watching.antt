@@ -5,10 +5,10 @@ use Rattle.std.proofs.lemmas.List.Elements.{filter-append}
 use Rattle.dk_base.specs.declared.object.Obj.{Obj}
 use Rattle.dk_base.specs.declared.object.Obj.TheVariants as obj
 use Rattle.dk_base.specs.declared.set.PollSet.{PollSet}
-use Rattle.kernel_records.specs.declared.association.AssocKey.{AssocKey}
-use Rattle.kernel_records.specs.declared.association.Association.{Association}
-use Rattle.kernel_records.specs.Words.{association_at, change_first, disarmed, has_key, is_fired_by, is_object, is_told, is_watcher}
-use Rattle.kernel_records.proofs.Places.{change_first-none}
+use Rattle.spec_records.specs.declared.association.AssocKey.{AssocKey}
+use Rattle.spec_records.specs.declared.association.Association.{Association}
+use Rattle.spec_records.specs.Words.{association_at, change_first, disarmed, has_key, is_fired_by, is_object, is_told, is_watcher}
+use Rattle.spec_records.proofs.Places.{change_first-none}
 use Rattle.port_assoc.specs.Lists.{without_first}
 use Rattle.port_assoc.specs.Table.{HaveDistinctKeys}
 use Rattle.port_assoc.specs.Watchers.{WatchLists, watchers_of}

@@ -3,8 +3,8 @@ use Rattle.std.specs.Prelude.{ℕ, Bool}
 use Rattle.dk_base.specs.declared.number.Fd.{Fd}
 use Rattle.dk_base.specs.declared.object.Obj.{Obj}
 use Rattle.dk_base.specs.declared.object.Obj.TheVariants as obj
-use Rattle.kernel_records.specs.declared.association.AssocKey.{AssocKey}
-use Rattle.kernel_records.specs.Words.{descriptor, pid}
+use Rattle.spec_records.specs.declared.association.AssocKey.{AssocKey}
+use Rattle.spec_records.specs.Words.{descriptor, pid}
 use Rattle.port_assoc.specs.declared.key.Key.{Key}
 use Rattle.port_assoc.specs.declared.key.ObjectKey.{ObjectKey}
 use Rattle.port_assoc.specs.declared.key.Row.{Row}

@@ -1,8 +1,8 @@
 -- How many associations there are of each descriptor of a process.
 use Rattle.std.specs.Prelude.{◌==◌, ℕ, Bool, List, not, unwrap_or}
 use Rattle.std.specs.Map.{lookup}
-use Rattle.kernel_records.specs.declared.association.Association.{Association}
-use Rattle.kernel_records.specs.Words.{descriptor, is_of_row}
+use Rattle.spec_records.specs.declared.association.Association.{Association}
+use Rattle.spec_records.specs.Words.{descriptor, is_of_row}
 use Rattle.port_assoc.specs.declared.key.Row.{Row}
 use Rattle.port_assoc.specs.Keys.{same_row}
 

@@ -1,8 +1,8 @@
 -- Associations as a map keeps them.
 use Rattle.std.specs.Prelude.{◌≡◌, ◌==◌, ◌&&◌, ℕ, Bool, List, [], ◌∷◌, None, map, nat_lt, not}
 use Rattle.dk_base.specs.declared.number.Fd.{Fd}
-use Rattle.kernel_records.specs.declared.association.Association.{Association}
-use Rattle.kernel_records.specs.Words.{association_at}
+use Rattle.spec_records.specs.declared.association.Association.{Association}
+use Rattle.spec_records.specs.Words.{association_at}
 use Rattle.port_assoc.specs.declared.key.Key.{Key}
 use Rattle.port_assoc.specs.declared.watch.Watch.{Watch}
 use Rattle.port_assoc.specs.Keys.{association_key}

@@ -2,9 +2,9 @@
 use Rattle.std.specs.Prelude.{◌≡◌, ℕ, ◌<◌, ◌≤◌, List, [], filter, length}
 use Rattle.std.specs.List.{cons_option}
 use Rattle.dk_base.specs.declared.object.Obj.{Obj}
-use Rattle.kernel_records.specs.declared.association.AssocKey.{AssocKey}
-use Rattle.kernel_records.specs.declared.association.Association.{Association}
-use Rattle.kernel_records.specs.Words.{AssociationList, association_at, has_key, is_watcher}
+use Rattle.spec_records.specs.declared.association.AssocKey.{AssocKey}
+use Rattle.spec_records.specs.declared.association.Association.{Association}
+use Rattle.spec_records.specs.Words.{AssociationList, association_at, has_key, is_watcher}
 use Rattle.port_assoc.specs.declared.key.Row.{Row}
 use Rattle.port_assoc.specs.Rows.{RowCounts, count_at, is_in_row}
 use Rattle.port_assoc.specs.Watchers.{WatchLists, room_at, watchers_of}

@@ -3,7 +3,7 @@ use Rattle.std.specs.Prelude.{ℕ, Bool, List, [], is_some, unwrap_or}
 use Rattle.std.specs.Map.{lookup}
 use Rattle.dk_base.specs.declared.object.Obj.{Obj}
 use Rattle.dk_base.specs.Spare.{RoomValue}
-use Rattle.kernel_records.specs.declared.association.Association.{Association}
+use Rattle.spec_records.specs.declared.association.Association.{Association}
 use Rattle.port_assoc.specs.declared.key.ObjectKey.{ObjectKey}
 use Rattle.port_assoc.specs.Keys.{object_key, same_object_key}
 

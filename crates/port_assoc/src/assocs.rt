@@ -1,7 +1,7 @@
 //! The associations of a kernel.
 ghost use Rattle.std.specs.Prelude.{◌≡◌, ◌+◌, ◌<◌, ◌≤◌, ◌++◌, ◌^◌, None, OnErr, OnOk, IfOk, IsOk, Some, find, length, ok_or};
 ghost use Rattle.dk_base.specs.declared.limits.TheConstants.{EVENTS_MAX};
-ghost use Rattle.kernel_records.specs.Words.{IsAscending, armed_at, associate, association_at, association_number, associations_of_process, associations_of_row, dissociate, end_process_associations, end_row, fire_first, fired_of, first_fired, has_key, is_fired_by, is_of_row, no_associations, number_in, numbers_of, ports_of, retrieve_association};
+ghost use Rattle.spec_records.specs.Words.{IsAscending, armed_at, associate, association_at, association_number, associations_of_process, associations_of_row, dissociate, end_process_associations, end_row, fire_first, fired_of, first_fired, has_key, is_fired_by, is_of_row, no_associations, number_in, numbers_of, ports_of, retrieve_association};
 ghost use Rattle.port_assoc.specs.Lists.{without_first};
 ghost use Rattle.port_assoc.specs.Table.{HaveDistinctKeys};
 ghost use Rattle.port_assoc.specs.Words.{HasRoomFor, IsAlone, KeepsRoom};
@@ -17,8 +17,8 @@ use dk_base::list::Room;
 use dk_base::number::{Fd, Pid};
 use dk_base::object::{EventRec, Obj, Src};
 use dk_base::set::PollSet;
-use kernel_records::association::{AssocKey, Association, Fired};
-use kernel_records::port::Queued;
+use spec_records::association::{AssocKey, Association, Fired};
+use spec_records::port::Queued;
 use std::alloc::Global;
 use std::marker::Model;
 
@@ -34,7 +34,7 @@ pub struct Assocs {
 
 impl Model for Assocs {
     ghost use Rattle.std.specs.Prelude.{min};
-    ghost use Rattle.kernel_records.specs.Words.{IsAscending, association_number};
+    ghost use Rattle.spec_records.specs.Words.{IsAscending, association_number};
     ghost use Rattle.port_assoc.specs.Value.{AreCounted, AssocsValue, IsWatched};
 
     ghost Value = { AssocsValue };

@@ -4,7 +4,7 @@ ghost use Rattle.port_assoc.specs.Keys.{association_key, key_of, object_key, row
 
 use dk_base::number::{Fd, Pid};
 use dk_base::object::Obj;
-use kernel_records::association::AssocKey;
+use spec_records::association::AssocKey;
 
 /// By what an association is known.
 #[derive(Clone, Copy, PartialEq, Eq, Hash, Drop)]

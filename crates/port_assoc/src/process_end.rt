@@ -1,7 +1,7 @@
 //! The associations of a process that ends.
 ghost use Rattle.std.specs.Prelude.{◌≡◌, ◌+◌, ◌≤◌, ◌++◌, filter, length};
 ghost use Rattle.dk_base.specs.declared.object.Obj.{Obj};
-ghost use Rattle.kernel_records.specs.Words.{associations_of_process, is_of_other_process, numbers_of, ports_of};
+ghost use Rattle.spec_records.specs.Words.{associations_of_process, is_of_other_process, numbers_of, ports_of};
 ghost use Rattle.port_assoc.specs.Value.{IsWatched};
 ghost use Rattle.port_assoc.specs.Watchers.{room_at};
 

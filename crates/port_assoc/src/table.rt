@@ -1,7 +1,7 @@
 //! Associations by their keys, in order.
 ghost use Rattle.std.specs.Prelude.{◌≡◌, ◌+◌, ◌<◌, ◌≤◌, ◌++◌, ◌^◌, ℕ, [], ◌∷◌, None, IsOk, OnOk, count_by, false, filter, find, length, position, slice_get, true};
 ghost use Rattle.std.specs.List.Sorted.{IsPartitionPoint, IsPartitionedBy};
-ghost use Rattle.kernel_records.specs.Words.{IsAscending, armed_at, association_at, association_number, change_first, disarmed, has_key, has_number, is_of_other_process, is_of_row};
+ghost use Rattle.spec_records.specs.Words.{IsAscending, armed_at, association_at, association_number, change_first, disarmed, has_key, has_number, is_of_other_process, is_of_row};
 ghost use Rattle.port_assoc.specs.Lists.{without_first};
 ghost use Rattle.indexmap.specs.IndexMap.{keys};
 ghost use Rattle.port_assoc.specs.Table.{HaveDistinctKeys, is_armed_entry, is_entry_below, is_key_of_other_process, is_key_of_row};
@@ -11,7 +11,7 @@ use crate::watch::{Watch, association_of};
 use dk_base::error::NoMemory;
 use dk_base::number::{Fd, Pid};
 use indexmap::IndexMap;
-use kernel_records::association::{AssocKey, Association};
+use spec_records::association::{AssocKey, Association};
 use std::alloc::Global;
 use std::marker::Model;
 
@@ -25,7 +25,7 @@ pub struct Table {
 impl Model for Table {
     ghost use Rattle.indexmap.specs.IndexMap.{spare, IsUnique};
     ghost use Rattle.dk_base.specs.Spare.{RoomValue};
-    ghost use Rattle.kernel_records.specs.declared.association.Association.{Association};
+    ghost use Rattle.spec_records.specs.declared.association.Association.{Association};
     ghost use Rattle.port_assoc.specs.Keys.{same_key};
     ghost use Rattle.port_assoc.specs.Table.{associations_in};
 
@@ -119,7 +119,7 @@ impl Table {
     }
 
     /// The first that watches by this descriptor of a process.
-    #[tactic(auto, using(crate::proofs::Entries::distinct_keys, crate::proofs::Entries::row_place, crate::proofs::Lists::find_place, kernel_records::proofs::Places::find_nowhere))]
+    #[tactic(auto, using(crate::proofs::Entries::distinct_keys, crate::proofs::Entries::row_place, crate::proofs::Lists::find_place, spec_records::proofs::Places::find_nowhere))]
     pub fn first_of_row(&self, process: Pid, fd: Fd) -> Option<Association>
         ensures found { result ≡ find (is_of_row process.0 fd) self.now.items }
         ensures distinct { HaveDistinctKeys self.now.items }

@@ -5,7 +5,7 @@ ghost use Rattle.port_assoc.specs.Table.{association_of};
 use crate::key::{Key, association_key};
 use dk_base::object::Obj;
 use dk_base::set::PollSet;
-use kernel_records::association::Association;
+use spec_records::association::Association;
 
 #[derive(Clone, Copy)]
 pub struct Watch {

@@ -1,11 +1,11 @@
 //! The armed associations of one object.
 ghost use Rattle.std.specs.Prelude.{◌≡◌, ◌+◌, ◌<◌, ◌≤◌, ◌++◌, [], ◌∷◌, IsOk, OnOk, find, position};
-ghost use Rattle.kernel_records.specs.Words.{has_key, is_told, number_in, told_events};
+ghost use Rattle.spec_records.specs.Words.{has_key, is_told, number_in, told_events};
 ghost use Rattle.port_assoc.specs.Lists.{without_first};
 
 use dk_base::error::NoMemory;
 use dk_base::set::PollSet;
-use kernel_records::association::{AssocKey, Association};
+use spec_records::association::{AssocKey, Association};
 use std::alloc::Global;
 use std::marker::Model;
 
@@ -18,7 +18,7 @@ pub struct WatchList {
 impl Model for WatchList {
     ghost use Rattle.std.specs.Prelude.{◌-◌, vec_capacity, vec_len};
     ghost use Rattle.dk_base.specs.Spare.{RoomValue};
-    ghost use Rattle.kernel_records.specs.declared.association.Association.{Association};
+    ghost use Rattle.spec_records.specs.declared.association.Association.{Association};
 
     ghost Value = { RoomValue Association };
 
@@ -90,7 +90,7 @@ impl WatchList {
     }
 
     /// The number of the first that is told something, where the object is ready for these.
-    #[tactic(auto, using(kernel_records::proofs::Places::found_there, kernel_records::proofs::Places::find_nowhere))]
+    #[tactic(auto, using(spec_records::proofs::Places::found_there, spec_records::proofs::Places::find_nowhere))]
     pub fn first_told(&self, ready: PollSet) -> Option<u32>
         ensures { result ≡ number_in (find (is_told ready) self.now.items) }
     {
@@ -99,7 +99,7 @@ impl WatchList {
     }
 
     /// The first that is told something, where the object is ready for these, leaves.
-    #[tactic(auto, using(kernel_records::proofs::Places::found_there, kernel_records::proofs::Places::find_nowhere, crate::proofs::Lists::place_out, crate::proofs::Lists::none_out))]
+    #[tactic(auto, using(spec_records::proofs::Places::found_there, spec_records::proofs::Places::find_nowhere, crate::proofs::Lists::place_out, crate::proofs::Lists::none_out))]
     pub fn take_told(&mut self, ready: PollSet) -> Option<Association>
         ensures result { result ≡ find (is_told ready) self.old.items }
         ensures items { self.new.items ≡ without_first (is_told ready) self.old.items }

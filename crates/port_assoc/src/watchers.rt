@@ -1,7 +1,7 @@
 //! The armed associations of each object.
 ghost use Rattle.std.specs.Prelude.{◌≡◌, ◌+◌, ◌<◌, ◌≤◌, ◌++◌, [], ◌∷◌, IsOk, OnOk, find, if◌then◌else◌, true};
 ghost use Rattle.dk_base.specs.declared.object.Obj.{Obj};
-ghost use Rattle.kernel_records.specs.Words.{has_key, is_object, is_told, is_watcher, number_in};
+ghost use Rattle.spec_records.specs.Words.{has_key, is_object, is_told, is_watcher, number_in};
 ghost use Rattle.port_assoc.specs.Keys.{object_key};
 ghost use Rattle.port_assoc.specs.Lists.{without_first};
 ghost use Rattle.port_assoc.specs.Watchers.{has_list, room_at, watchers_of};
@@ -12,7 +12,7 @@ use dk_base::error::NoMemory;
 use dk_base::object::Obj;
 use dk_base::set::PollSet;
 use indexmap::IndexMap;
-use kernel_records::association::{AssocKey, Association};
+use spec_records::association::{AssocKey, Association};
 use std::alloc::Global;
 use std::marker::Model;
 

@@ -1,10 +1,10 @@
 -- A process of a table, changed.
 use Rattle.std.proofs.Common.{◌≡◌, ℕ, suc, ◌+◌, ◌-◌, ◌<◌, Some, None, get_or, length, slice_set, sym, ap, ◌∙◌, arith}
 use Rattle.dk_base.specs.ByNumber.{at_number, with_at_number}
-use Rattle.kernel_records.specs.declared.record.Process.{Process}
-use Rattle.kernel_records.specs.Words.{ProcessTable, change_process, change_process_in}
-use Rattle.kernel_records.proofs.Lists.{with_at_number-suc}
-use Rattle.kernel_records.proofs.Places.{numbered_here}
+use Rattle.spec_records.specs.declared.record.Process.{Process}
+use Rattle.spec_records.specs.Words.{ProcessTable, change_process, change_process_in}
+use Rattle.spec_records.proofs.Lists.{with_at_number-suc}
+use Rattle.spec_records.proofs.Places.{numbered_here}
 
 -- the table of these processes, of which one is changed
 pub process_changed :

@@ -3,16 +3,16 @@ use Rattle.std.proofs.Common.{◌≡◌, ℕ, zero, suc, ◌+◌, ◌-◌, ◌<�
 use Rattle.std.proofs.lemmas.Bool.Decides.{nat_tests}
 use Rattle.std.proofs.lemmas.List.{length-map, take_at}
 use Rattle.dk_base.specs.ByNumber.{at_number}
-use Rattle.kernel_records.specs.declared.record.Thread.{Thread}
-use Rattle.kernel_records.proofs.Lists.{at_number-map, at_number-push, at_number-set, numbered_past}
-use Rattle.kernel_records.proofs.NumberedLists.{map_first}
-use Rattle.kernel_records.proofs.Places.{numbered_here}
-use Rattle.kernel_records.specs.Words.{begun_thread}
+use Rattle.spec_records.specs.declared.record.Thread.{Thread}
+use Rattle.spec_records.proofs.Lists.{at_number-map, at_number-push, at_number-set, numbered_past}
+use Rattle.spec_records.proofs.NumberedLists.{map_first}
+use Rattle.spec_records.proofs.Places.{numbered_here}
+use Rattle.spec_records.specs.Words.{begun_thread}
 use Rattle.proc_table.specs.declared.crews.Crews.{Crews}
 use Rattle.proc_table.specs.Crews.{AreCrews, has_in, is_of}
 use Rattle.proc_table.specs.Ends.{ended_where_of}
-use Rattle.thread_set.specs.declared.set.ThreadSet.{ThreadSet}
-use Rattle.thread_set.specs.Words.{has}
+use Rattle.dk_base.specs.declared.thread_set.ThreadSet.{ThreadSet}
+use Rattle.dk_base.specs.Words.{has}
 
 some_of : (x y : Thread) → Some x ≡ Some y → x ≡ y
 some_of x y e = cc

@@ -2,15 +2,15 @@
 use Rattle.std.proofs.Common.{◌≡◌, ℕ, suc, ◌+◌, ◌-◌, ◌<◌, ◌==◌, Bool, true, false, if◌then◌else◌, List, [], ◌∷◌, ◌++◌, Some, Option, get_or, length, slice_set, refl, sym, ap, ◌∙◌, arith}
 use Rattle.std.proofs.lemmas.Bool.Decides.{nat_tests}
 use Rattle.dk_base.specs.ByNumber.{at_number, with_at_number}
-use Rattle.kernel_records.specs.declared.record.Thread.{Thread}
-use Rattle.kernel_records.specs.declared.record.ThreadState.{ThreadState}
-use Rattle.kernel_records.specs.Words.{ProcessTable, change_thread, change_thread_in, is_active, is_idle, state_in}
-use Rattle.kernel_records.proofs.Lists.{at_number-push, at_number-set, with_at_number-suc}
-use Rattle.kernel_records.proofs.Places.{numbered_here}
+use Rattle.spec_records.specs.declared.record.Thread.{Thread}
+use Rattle.spec_records.specs.declared.record.ThreadState.{ThreadState}
+use Rattle.spec_records.specs.Words.{ProcessTable, change_thread, change_thread_in, is_active, is_idle, state_in}
+use Rattle.spec_records.proofs.Lists.{at_number-push, at_number-set, with_at_number-suc}
+use Rattle.spec_records.proofs.Places.{numbered_here}
 use Rattle.proc_table.specs.declared.standing.Standing.{Standing}
 use Rattle.proc_table.specs.Standing.{AreNoted, IsNotedAt, goes_on, is_awaiting, is_getting}
-use Rattle.thread_set.specs.declared.set.ThreadSet.{ThreadSet}
-use Rattle.thread_set.specs.Words.{has, with_thread}
+use Rattle.dk_base.specs.declared.thread_set.ThreadSet.{ThreadSet}
+use Rattle.dk_base.specs.Words.{has, with_thread}
 
 by_test : (f : ThreadState → Bool) (x : Thread) (o : Option Thread) (b : Bool) → (if b then f x.state else f (state_in o)) ≡ f (state_in (if b then Some x else o))
 by_test f x o true = refl

@@ -2,12 +2,12 @@
 use Rattle.std.proofs.Common.{◌≡◌, ℕ, zero, suc, ◌≤◌, ◌==◌, ◌&&◌, ◌||◌, Bool, true, false, if◌then◌else◌, not, List, [], ◌∷◌, Option, Some, None, length, slice_get, refl, sym, ap, ap₂, ◌∙◌, subst}
 use Rattle.std.specs.List.{list_any}
 use Rattle.dk_base.specs.ByNumber.{at_number}
-use Rattle.kernel_records.specs.declared.record.Thread.{Thread}
-use Rattle.kernel_records.specs.Words.{is_active, is_idle, is_idle_thread, keeps_alive, state_in}
-use Rattle.kernel_records.proofs.Lists.{at_number-suc, numbered_within}
+use Rattle.spec_records.specs.declared.record.Thread.{Thread}
+use Rattle.spec_records.specs.Words.{is_active, is_idle, is_idle_thread, keeps_alive, state_in}
+use Rattle.spec_records.proofs.Lists.{at_number-suc, numbered_within}
 use Rattle.proc_table.specs.Crews.{is_of}
-use Rattle.thread_set.specs.declared.set.ThreadSet.{ThreadSet}
-use Rattle.thread_set.specs.Words.{has, with_thread}
+use Rattle.dk_base.specs.declared.thread_set.ThreadSet.{ThreadSet}
+use Rattle.dk_base.specs.Words.{has, with_thread}
 
 -- an item, if there is one, meets a test
 abbrev pub meets : {X : Type 0} → (X → Bool) → Option X → Bool

@@ -1,11 +1,11 @@
 -- Threads that have not ended are there.
 use Rattle.std.proofs.Common.{◌≡◌, ℕ, zero, suc, ◌-◌, ◌<◌, true, false, List, [], ◌∷◌, Option, length, slice_get, refl, sym, ap, ◌∙◌, arith}
-use Rattle.kernel_records.specs.declared.record.Thread.{Thread}
-use Rattle.kernel_records.specs.declared.record.ThreadState.{ThreadState}
-use Rattle.kernel_records.specs.declared.record.ThreadState.TheVariants as is
+use Rattle.spec_records.specs.declared.record.Thread.{Thread}
+use Rattle.spec_records.specs.declared.record.ThreadState.{ThreadState}
+use Rattle.spec_records.specs.declared.record.ThreadState.TheVariants as is
 use Rattle.dk_base.specs.ByNumber.{at_number}
-use Rattle.kernel_records.specs.Words.{is_done, is_idle, state_in}
-use Rattle.kernel_records.proofs.Lists.{at_number-suc}
+use Rattle.spec_records.specs.Words.{is_done, is_idle, state_in}
+use Rattle.spec_records.proofs.Lists.{at_number-suc}
 
 place_there : (xs : List Thread) (k : ℕ) → is_done (state_in (slice_get xs k)) ≡ false → k < length xs
 place_there [] k e = cc

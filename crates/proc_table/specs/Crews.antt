@@ -1,10 +1,10 @@
 -- Which threads each process has.
 use Rattle.std.specs.Prelude.{ℕ, ◌≡◌, ◌==◌, Bool, false, List, Option, Some, None, slice_get}
 use Rattle.dk_base.specs.ByNumber.{at_number}
-use Rattle.kernel_records.specs.declared.record.Thread.{Thread}
+use Rattle.spec_records.specs.declared.record.Thread.{Thread}
 use Rattle.proc_table.specs.declared.crews.Crews.{Crews}
-use Rattle.thread_set.specs.declared.set.ThreadSet.{ThreadSet}
-use Rattle.thread_set.specs.Words.{has}
+use Rattle.dk_base.specs.declared.thread_set.ThreadSet.{ThreadSet}
+use Rattle.dk_base.specs.Words.{has}
 
 -- a thread that is there is one of process p
 abbrev pub is_of : ℕ → Option Thread → Bool

@@ -1,7 +1,7 @@
 -- The end of a process together with all its threads.
 use Rattle.std.specs.Prelude.{ℕ, ◌==◌, if◌then◌else◌, map}
-use Rattle.kernel_records.specs.declared.record.Thread.{Thread}
-use Rattle.kernel_records.specs.Words.{ProcessTable, end_process, ended_thread}
+use Rattle.spec_records.specs.declared.record.Thread.{Thread}
+use Rattle.spec_records.specs.Words.{ProcessTable, end_process, ended_thread}
 
 abbrev pub ended_where_of : ℕ → Thread → Thread
 ended_where_of p x = if x.process.0 == p then ended_thread x else x

@@ -2,12 +2,12 @@
 -- processes from ending.
 use Rattle.std.specs.Prelude.{ℕ, ◌≡◌, Bool, true, false, not, List}
 use Rattle.dk_base.specs.ByNumber.{at_number}
-use Rattle.kernel_records.specs.declared.record.Thread.{Thread}
-use Rattle.kernel_records.specs.declared.record.ThreadState.{ThreadState}
-use Rattle.kernel_records.specs.declared.record.ThreadState.TheVariants as is
-use Rattle.kernel_records.specs.Words.{is_active, is_idle, state_in}
+use Rattle.spec_records.specs.declared.record.Thread.{Thread}
+use Rattle.spec_records.specs.declared.record.ThreadState.{ThreadState}
+use Rattle.spec_records.specs.declared.record.ThreadState.TheVariants as is
+use Rattle.spec_records.specs.Words.{is_active, is_idle, state_in}
 use Rattle.proc_table.specs.declared.standing.Standing.{Standing}
-use Rattle.thread_set.specs.Words.{has, with_thread}
+use Rattle.dk_base.specs.Words.{has, with_thread}
 
 -- a thread at this can take a turn, whatever calls and names there are
 abbrev pub goes_on : ThreadState → Bool

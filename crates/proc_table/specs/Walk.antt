@@ -1,8 +1,8 @@
 -- A walk over the threads of a set, in order of number.
 use Rattle.std.specs.Prelude.{ℕ, ◌≡◌, ◌<◌, ◌&&◌, true, false, nat_lt}
 use Rattle.proc_table.specs.declared.walk.Walk.{Walk}
-use Rattle.thread_set.specs.declared.set.ThreadSet.{ThreadSet}
-use Rattle.thread_set.specs.Words.{has}
+use Rattle.dk_base.specs.declared.thread_set.ThreadSet.{ThreadSet}
+use Rattle.dk_base.specs.Words.{has}
 
 -- those of a set are still to come that are after the last that came
 pub record Walks (set : ThreadSet) (walk : Walk) : Type 0 where

@@ -2,11 +2,11 @@
 ghost use Rattle.std.specs.Prelude.{◌≡◌, ◌==◌, ◌&&◌, ◌<◌, ◌≤◌, ℕ, false, if◌then◌else◌, slice_get, true};
 ghost use Rattle.dk_base.specs.declared.limits.TheConstants.{PROCESSES_MAX, THREADS_MAX};
 ghost use Rattle.proc_table.specs.Crews.{has_in};
-ghost use Rattle.thread_set.specs.Words.{has};
+ghost use Rattle.dk_base.specs.Words.{has};
 
 use dk_base::limits::{PROCESSES_MAX, THREADS_MAX};
 use dk_base::number::{Pid, Tid};
-use thread_set::set::ThreadSet;
+use dk_base::thread_set::ThreadSet;
 
 /// A set for each process number from 0 on.
 const SETS: usize = 65;

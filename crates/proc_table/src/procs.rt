@@ -5,13 +5,13 @@ ghost use Rattle.std.specs.Option.{option_map};
 ghost use Rattle.dk_base.specs.declared.error.ProcFault.TheVariants.{Full};
 ghost use Rattle.dk_base.specs.declared.limits.TheConstants.{PROCESSES_MAX, THREADS_MAX};
 ghost use Rattle.dk_base.specs.ByNumber.{at_number};
-ghost use Rattle.kernel_records.specs.declared.record.ThreadState.TheVariants.{Done};
+ghost use Rattle.spec_records.specs.declared.record.ThreadState.TheVariants.{Done};
 ghost use Rattle.proc_table.specs.Ends.{end_proc, ended_where_of};
 ghost use Rattle.proc_table.specs.Crews.{is_of};
 ghost use Rattle.proc_table.specs.Begins.{first_number};
 ghost use Rattle.proc_table.specs.Standing.{goes_on, is_awaiting, is_getting};
-ghost use Rattle.thread_set.specs.Words.{has, with_thread};
-ghost use Rattle.kernel_records.specs.Words.{ProcessTable, active_threads, begin_process, begun_thread, cancelled_thread, change_process, change_thread, end_invocation, end_process, end_thread, enter_thread, give_thread, interrupted_thread, invocation_in, is_active_of, is_done, is_fellow_caller, is_first_of, is_idle, is_idle_thread, is_last, is_live_in, is_spare_in, is_unborn_in, keeps_alive, live_process, make_child, new_process, new_thread, opening_state, parent_in, park_thread, process_in, set_thread_state, state_in, thread_at, unborn_thread};
+ghost use Rattle.dk_base.specs.Words.{has, with_thread};
+ghost use Rattle.spec_records.specs.Words.{ProcessTable, active_threads, begin_process, begun_thread, cancelled_thread, change_process, change_thread, end_invocation, end_process, end_thread, enter_thread, give_thread, interrupted_thread, invocation_in, is_active_of, is_done, is_fellow_caller, is_first_of, is_idle, is_idle_thread, is_last, is_live_in, is_spare_in, is_unborn_in, keeps_alive, live_process, make_child, new_process, new_thread, opening_state, parent_in, park_thread, process_in, set_thread_state, state_in, thread_at, unborn_thread};
 
 use crate::crews::Crews;
 use crate::standing::Standing;
@@ -23,11 +23,11 @@ use dk_base::error::ProcFault;
 use dk_base::limits::{PROCESSES_MAX, THREADS_MAX};
 use dk_base::number::{Pid, Tid};
 use dk_base::object::{Inv, Item};
-use kernel_records::numbered::{numbered_item, place_of};
-use kernel_records::record::{Process, ProcessStage, Thread, ThreadState};
+use dk_base::thread_set::ThreadSet;
+use spec_records::numbered::{numbered_item, place_of};
+use spec_records::record::{Process, ProcessStage, Thread, ThreadState};
 use std::alloc::Global;
 use std::marker::Model;
-use thread_set::set::ThreadSet;
 
 /// Processes and threads, numbered from 1: at most 64 of each. A number that no thread has reads as that of a Done thread
 /// of process 0, and a change of it changes nothing.
@@ -44,8 +44,8 @@ pub struct Procs {
 impl Model for Procs {
     ghost use Rattle.std.specs.Prelude.{◌≡◌, ◌≤◌, length};
     ghost use Rattle.dk_base.specs.declared.limits.TheConstants.{PROCESSES_MAX, THREADS_MAX};
-    ghost use Rattle.kernel_records.specs.declared.record.ThreadState.TheVariants.{Done};
-    ghost use Rattle.kernel_records.specs.Words.{ProcessTable};
+    ghost use Rattle.spec_records.specs.declared.record.ThreadState.TheVariants.{Done};
+    ghost use Rattle.spec_records.specs.Words.{ProcessTable};
     ghost use Rattle.proc_table.specs.Crews.{AreCrews};
     ghost use Rattle.proc_table.specs.Standing.{AreNoted};
 
@@ -423,7 +423,7 @@ impl Procs {
     }
 
     /// A thread that has not ended turns to another state.
-    #[tactic(auto, using(kernel_records::proofs::Places::numbered_here))]
+    #[tactic(auto, using(spec_records::proofs::Places::numbered_here))]
     fn set_state(&mut self, t: Tid, state: ThreadState)
         requires { is_done (state_in (thread_at self.old t.0)) ≡ false }
         ensures { self.new ≡ set_thread_state self.old t.0 state }
@@ -466,7 +466,7 @@ impl Procs {
 
     /// A thread enters the invocation of the item that it was given, and runs. The change itself needs only that the thread
     /// has not ended; that it is this item is for what stands above.
-    #[tactic(auto, using(kernel_records::proofs::Places::numbered_here))]
+    #[tactic(auto, using(spec_records::proofs::Places::numbered_here))]
     pub fn enter(&mut self, t: Tid, item: Item)
         requires { state_in (thread_at self.old t.0) ≡ ThreadState.Given item }
         ensures { self.new ≡ enter_thread self.old t.0 item }
@@ -479,7 +479,7 @@ impl Procs {
 
     /// A thread's invocation ends, and it is parked since an event (door_return(3C)). That it enters a pool is for what stands
     /// above.
-    #[tactic(auto, using(kernel_records::proofs::Places::numbered_here))]
+    #[tactic(auto, using(spec_records::proofs::Places::numbered_here))]
     pub fn park(&mut self, t: Tid, since: u64)
         ensures { self.new ≡ park_thread self.old t.0 since }
     {
@@ -492,7 +492,7 @@ impl Procs {
 
     /// A thread ends, and leaves the invocation that it is in. Says whether it was the last thread of its process that was
     /// neither Done nor Dormant.
-    #[tactic(auto, using(kernel_records::proofs::Places::numbered_here))]
+    #[tactic(auto, using(spec_records::proofs::Places::numbered_here))]
     pub fn end_thread(&mut self, t: Tid) -> bool
         ensures state { self.new ≡ end_thread self.old t.0 }
         ensures last { result ≡ is_last self.old t.0 (process_in (thread_at self.old t.0)) }
@@ -508,7 +508,7 @@ impl Procs {
 
     /// The caller of the thread's invocation has left it, so the flag of the invocation is set (DOOR_NO_CANCEL,
     /// door_create(3C)). A thread that is in none stays as it is.
-    #[tactic(auto, using(kernel_records::proofs::Places::numbered_here))]
+    #[tactic(auto, using(spec_records::proofs::Places::numbered_here))]
     pub fn cancel(&mut self, t: Tid)
         ensures { self.new ≡ change_thread self.old t.0 cancelled_thread }
     {
@@ -519,7 +519,7 @@ impl Procs {
     }
 
     /// A thread is interrupted: its wait for the events of a port is marked. A thread at anything else stays as it is.
-    #[tactic(auto, using(kernel_records::proofs::Places::numbered_here))]
+    #[tactic(auto, using(spec_records::proofs::Places::numbered_here))]
     pub fn interrupt(&mut self, t: Tid)
         ensures { self.new ≡ change_thread self.old t.0 interrupted_thread }
     {
@@ -531,7 +531,7 @@ impl Procs {
     }
 
     /// A thread's invocation ends, and the thread goes on as it was.
-    #[tactic(auto, using(kernel_records::proofs::Places::numbered_here))]
+    #[tactic(auto, using(spec_records::proofs::Places::numbered_here))]
     pub fn end_invocation(&mut self, t: Tid)
         requires { is_done (state_in (thread_at self.old t.0)) ≡ false }
         ensures { self.new ≡ end_invocation self.old t.0 }
@@ -560,7 +560,7 @@ impl Procs {
     }
 
     /// A process ends; its threads stay as they are. A number that no process has ends no process.
-    #[tactic(auto, using(kernel_records::proofs::Places::numbered_here))]
+    #[tactic(auto, using(spec_records::proofs::Places::numbered_here))]
     pub fn end_process(&mut self, p: Pid)
         ensures { self.new ≡ end_process self.old p.0 }
     {

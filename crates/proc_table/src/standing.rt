@@ -6,8 +6,8 @@ ghost use Rattle.proc_table.specs.Standing.{AreNoted, IsNotedAt, goes_on, is_awa
 
 use crate::thread::{is_active, is_idle};
 use dk_base::number::Tid;
-use kernel_records::record::{Thread, ThreadState};
-use thread_set::set::ThreadSet;
+use dk_base::thread_set::ThreadSet;
+use spec_records::record::{Thread, ThreadState};
 
 /// Of all threads, those that can take a turn by what they are at alone, those that wait for a path, those that wait at a port and were
 /// not interrupted, those that are parked, and those that are neither Done nor Dormant.

@@ -1,11 +1,11 @@
 //! What becomes of one thread, and what is asked of one.
 ghost use Rattle.std.specs.Prelude.{◌≡◌};
-ghost use Rattle.kernel_records.specs.Words.{begun_thread, cancelled_thread, ended_thread, idle_thread, interrupted_thread, is_active, is_active_of, is_calling, is_first_of, is_idle, thread_at_state, thread_in_invocation, thread_outside};
+ghost use Rattle.spec_records.specs.Words.{begun_thread, cancelled_thread, ended_thread, idle_thread, interrupted_thread, is_active, is_active_of, is_calling, is_first_of, is_idle, thread_at_state, thread_in_invocation, thread_outside};
 ghost use Rattle.proc_table.specs.Ends.{ended_where_of};
 
 use dk_base::number::{Pid, Tid};
 use dk_base::object::{Inv, Item};
-use kernel_records::record::{Thread, ThreadState};
+use spec_records::record::{Thread, ThreadState};
 
 /// Whether a thread at this keeps its process from ending.
 pub fn is_active(state: &ThreadState) -> bool

@@ -2,10 +2,10 @@
 ghost use Rattle.std.specs.Prelude.{◌≡◌, ◌<◌, ◌≤◌, ℕ, false, IfNone, IfSome};
 ghost use Rattle.dk_base.specs.declared.limits.TheConstants.{THREADS_MAX};
 ghost use Rattle.proc_table.specs.Walk.{IsNext, Walks};
-ghost use Rattle.thread_set.specs.Words.{has};
+ghost use Rattle.dk_base.specs.Words.{has};
 
 use dk_base::number::Tid;
-use thread_set::set::ThreadSet;
+use dk_base::thread_set::ThreadSet;
 
 /// A walk over the threads of a set, in order of number: those that are still to come, and the last that came.
 #[derive(Clone, Copy)]

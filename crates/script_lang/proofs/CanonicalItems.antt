@@ -4,9 +4,9 @@ use Rattle.std.specs.List.{filter, filter_map}
 use Rattle.std.proofs.lemmas.Bool.{false≢true}
 use Rattle.std.proofs.lemmas.List.{append_assoc}
 use Rattle.script_lang.specs.Types.{Kind, Line}
-use Rattle.script_line.specs.declared.line.Kind.TheVariants.{Act, Loop, Test, Closing}
-use Rattle.script_line.specs.declared.line.Line.TheVariants.{Repeat, If, End}
-use Rattle.script_line.specs.Words.{Tables, depth_after, kind_of}
+use Rattle.line_forms.specs.declared.line.Kind.TheVariants.{Act, Loop, Test, Closing}
+use Rattle.line_forms.specs.declared.line.Line.TheVariants.{Repeat, If, End}
+use Rattle.line_forms.specs.Words.{Tables, depth_after, kind_of}
 use Rattle.script_lang.specs.declared.item.ScriptLine.{ScriptLine}
 use Rattle.script_lang.specs.declared.item.ScriptLine.TheVariants.{Budget, Process, Child, Spare, Thread, Procedure, Do, Schedule}
 use Rattle.script_lang.specs.declared.item.ScriptPlace.{ScriptPlace}

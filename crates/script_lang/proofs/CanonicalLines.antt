@@ -3,18 +3,18 @@ use Rattle.std.proofs.Common.{◌≡◌, ℕ, ◌≤◌, ◌<◌, ◌^◌, true,
 use Rattle.std.specs.Prelude.{codes, decimal}
 use Rattle.std.specs.List.{list_all}
 use Rattle.std.proofs.lemmas.Bool.{and_from}
-use Rattle.script_text.specs.Types.{Pid, Tid}
-use Rattle.script_text.specs.Words.{SpellsName, is_name, is_word, joined_words, spaced_words}
-use Rattle.script_text.proofs.DecimalWords.{is_plain-decimal}
-use Rattle.script_text.proofs.JoinedWords.{words_of-joined_words, joined_first, is_word-plain}
-use Rattle.script_text.proofs.PartWords.{is_plain-name}
-use Rattle.script_text.proofs.PrintableWords.{are_printable, are_printable-joined_words, are_printable-name, are_printable-decimal}
+use Rattle.line_text.specs.Types.{Pid, Tid}
+use Rattle.line_text.specs.Words.{SpellsName, is_name, is_word, joined_words, spaced_words}
+use Rattle.line_text.proofs.DecimalWords.{is_plain-decimal}
+use Rattle.line_text.proofs.JoinedWords.{words_of-joined_words, joined_first, is_word-plain}
+use Rattle.line_text.proofs.PartWords.{is_plain-name}
+use Rattle.line_text.proofs.PrintableWords.{are_printable, are_printable-joined_words, are_printable-name, are_printable-decimal}
 use Rattle.script_lang.specs.Types.{Keyword, Line}
-use Rattle.script_line.specs.declared.keyword.Keyword.TheVariants.{Create}
-use Rattle.script_line.specs.Words.{Each, Ends, First, SpellsProcess, SpellsThread, Tables, Then, keyword_of_line, keyword_word, line_words, operand_words, process_word, thread_word}
-use Rattle.line_laws.proofs.LineWritten.{line-written, line-words}
-use Rattle.line_laws.proofs.PrintableLine.{line_printable}
-use Rattle.line_laws.proofs.WordKinds.{AProcess, word_written}
+use Rattle.line_forms.specs.declared.keyword.Keyword.TheVariants.{Create}
+use Rattle.line_forms.specs.Words.{Each, Ends, First, SpellsProcess, SpellsThread, Tables, Then, keyword_of_line, keyword_word, line_words, operand_words, process_word, thread_word}
+use Rattle.law_lines.proofs.LineWritten.{line-written, line-words}
+use Rattle.law_lines.proofs.PrintableLine.{line_printable}
+use Rattle.law_lines.proofs.WordKinds.{AProcess, word_written}
 use Rattle.line_writer.proofs.SpacedWords.{parted}
 use Rattle.script_lang.specs.declared.item.ScriptLine.{ScriptLine}
 use Rattle.script_lang.specs.declared.item.ScriptLine.TheVariants.{Budget, Process, Child, Spare, Thread, Procedure, Do, Schedule}

@@ -2,9 +2,9 @@
 use Rattle.std.proofs.Common.{◌≡◌, ℕ, true, List, [], ◌∷◌, map, refl, sym, ap, ◌∙◌, subst}
 use Rattle.std.specs.List.{list_all, flat_map}
 use Rattle.std.proofs.lemmas.Bool.{and_parts, and_from}
-use Rattle.script_text.specs.Words.{is_one_line, lines_of}
-use Rattle.script_text.proofs.PrintableWords.{are_printable, is_one_line-printable}
-use Rattle.script_text.proofs.TextLines.{lines_of-text_of_lines}
+use Rattle.line_text.specs.Words.{is_one_line, lines_of}
+use Rattle.line_text.proofs.PrintableWords.{are_printable, is_one_line-printable}
+use Rattle.line_text.proofs.TextLines.{lines_of-text_of_lines}
 use Rattle.script_lang.specs.Context.{first_context}
 use Rattle.script_lang.specs.Canonical.{header, item_line, canonical_text}
 use Rattle.script_lang.specs.Scripts.{items_of, script_of_items, tables_of}

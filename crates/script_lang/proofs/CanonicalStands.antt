@@ -3,10 +3,10 @@ use Rattle.std.proofs.Common.{◌≡◌, ℕ, zero, suc, ◌≤◌, Bool, true, 
 use Rattle.std.specs.Prelude.{codes}
 use Rattle.std.specs.List.{flat_map, onto_first}
 use Rattle.std.proofs.lemmas.Bool.{false≢true}
-use Rattle.script_text.specs.Types.{Tid}
-use Rattle.script_line.specs.Words.{Each, Ends, First, SpellsThread, Tables, depth_after, kind_of, thread_word}
-use Rattle.line_laws.proofs.WordKinds.{AThread, word_written}
-use Rattle.script_text.specs.Words.{SpellsNumber}
+use Rattle.line_text.specs.Types.{Tid}
+use Rattle.line_forms.specs.Words.{Each, Ends, First, SpellsThread, Tables, depth_after, kind_of, thread_word}
+use Rattle.law_lines.proofs.WordKinds.{AThread, word_written}
+use Rattle.line_text.specs.Words.{SpellsNumber}
 use Rattle.script_lang.specs.declared.item.ScriptLine.{ScriptLine}
 use Rattle.script_lang.specs.declared.item.ScriptLine.TheVariants.{Budget, Process, Child, Spare, Thread, Procedure, Do, Schedule}
 use Rattle.script_lang.specs.declared.item.ScriptPlace.{ScriptPlace}

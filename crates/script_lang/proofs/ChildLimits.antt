@@ -1,7 +1,7 @@
 -- What the limits of children leave as it is.
 use Rattle.std.proofs.Common.{◌≡◌, List, [], ◌∷◌, ◌++◌, length, Option, Some, None, map, refl, sym, ap, ◌∙◌}
 use Rattle.std.proofs.lemmas.List.{append_assoc, append-nil, length-map}
-use Rattle.script_text.specs.Types.{Pid}
+use Rattle.line_text.specs.Types.{Pid}
 use Rattle.script_lang.specs.declared.script.ScriptProcess.{ScriptProcess}
 use Rattle.script_lang.specs.Scripts.{process_item, process_item_of, with_limit_from, with_limits}
 

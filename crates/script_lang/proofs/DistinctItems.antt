@@ -5,8 +5,8 @@ use Rattle.std.specs.List.{list_any}
 use Rattle.std.proofs.lemmas.Bool.{and_parts, or_parts, not-true, eq-eqb, ne_eqb}
 use Rattle.std.proofs.lemmas.List.{append_assoc, append-nil, length-append, map-append}
 use Rattle.std.proofs.lemmas.List.Folds.{list_any-append}
-use Rattle.script_text.specs.Words.{are_distinct, has_name}
-use Rattle.script_line.specs.Words.{ProcedureName, Tables, depth_after, is_same_procedure, kind_of, qualified_name}
+use Rattle.line_text.specs.Words.{are_distinct, has_name}
+use Rattle.line_forms.specs.Words.{ProcedureName, Tables, depth_after, is_same_procedure, kind_of, qualified_name}
 use Rattle.script_lang.specs.declared.item.ScriptLine.{ScriptLine}
 use Rattle.script_lang.specs.declared.item.ScriptLine.TheVariants.{Budget, Process, Child, Spare, Thread, Procedure, Do, Schedule}
 use Rattle.script_lang.specs.Context.{ContextValue, first_context, is_declared_twice, context_after, context_at_depth, context_with_variables}

@@ -2,9 +2,9 @@
 use Rattle.std.proofs.Common.{◌≡◌, ℕ, Bool, true, false, List, ◌∷◌, length, Option, Some, None, refl, sym, ap, subst, ◌∙◌}
 use Rattle.std.proofs.lemmas.List.{append_assoc, append-nil, length-append}
 use Rattle.std.proofs.lemmas.Bool.{false≢true}
-use Rattle.script_text.specs.Types.{Tid}
+use Rattle.line_text.specs.Types.{Tid}
 use Rattle.script_lang.specs.Types.{Line}
-use Rattle.script_line.specs.Words.{depth_after, kind_of}
+use Rattle.line_forms.specs.Words.{depth_after, kind_of}
 use Rattle.script_lang.specs.declared.draft.Draft.{Draft}
 use Rattle.script_lang.specs.declared.draft.Owner.{Owner}
 use Rattle.script_lang.specs.declared.draft.Owner.TheVariants.{Nobody, Thread as OfThread, Procedure as OfProcedure}

@@ -6,8 +6,8 @@ use Rattle.std.proofs.lemmas.Bool.{and_parts, or_parts, false≢true}
 use Rattle.std.proofs.lemmas.List.{append_assoc, append-nil}
 use Rattle.std.proofs.lemmas.List.Folds.{list_any-append}
 use Rattle.std.proofs.lemmas.Slice.Eq.{bytes_eq-Decides}
-use Rattle.script_text.specs.Words.{are_distinct, first_uses, has_name, with_distinct_name, with_distinct_names}
-use Rattle.script_line.specs.Words.{is_same}
+use Rattle.line_text.specs.Words.{are_distinct, first_uses, has_name, with_distinct_name, with_distinct_names}
+use Rattle.line_forms.specs.Words.{is_same}
 
 -- a list begins with these names
 pub record BeginsWith (names all : List (List ℕ)) : Type 0 where

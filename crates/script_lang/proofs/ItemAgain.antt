@@ -2,18 +2,18 @@
 use Rattle.std.proofs.Common.{◌≡◌, ℕ, ◌≤◌, Bool, true, false, cond, ◌&&◌, List, [], ◌∷◌, length, take, Some, None, Ok, option_map, refl, ap, ◌∙◌, inl, inr, arith, lit<}
 use Rattle.std.specs.Prelude.{codes, nat_le}
 use Rattle.std.proofs.lemmas.Bool.{false≢true, leb-true}
-use Rattle.script_text.specs.Types.{Pid, Tid}
-use Rattle.script_text.specs.Words.{SpellsName, SpellsNumber, words_of}
+use Rattle.line_text.specs.Types.{Pid, Tid}
+use Rattle.line_text.specs.Words.{SpellsName, SpellsNumber, words_of}
 use Rattle.script_lang.specs.Types.{Line}
-use Rattle.script_line.specs.Words.{AreDistinct, Each, Ends, First, SpellsParent, SpellsThread, Tables, Then, earlier_number, keyword_of_line, keyword_word, line_version}
+use Rattle.line_forms.specs.Words.{AreDistinct, Each, Ends, First, SpellsParent, SpellsThread, Tables, Then, earlier_number, keyword_of_line, keyword_word, line_version}
 use Rattle.line_reader.specs.Words.{Reader, Rest, declared_number, is_at_stop, is_no_stop, line_with, name as name_read, name_from_word, nonempty_list, optional_word, pid, pure, rest_of, then_read, thread_from_word, value_at_end, ◌>>=◌}
-use Rattle.line_laws.proofs.DataWords.{items_again}
-use Rattle.line_laws.proofs.DescriptorWords.{number_reader-spelled, name_read-spelled}
-use Rattle.line_laws.proofs.KeywordWords.{keyword-again}
-use Rattle.line_laws.proofs.LineLawsProved.{not_empty, spelled-read_back}
-use Rattle.script_line.proofs.Numbering.{number_of_earlier, same_some}
-use Rattle.line_laws.proofs.PassWords.{at_least_one_again}
-use Rattle.line_laws.proofs.WordKinds.{AThread, word_again}
+use Rattle.law_lines.proofs.DataWords.{items_again}
+use Rattle.law_lines.proofs.DescriptorWords.{number_reader-spelled, name_read-spelled}
+use Rattle.law_lines.proofs.KeywordWords.{keyword-again}
+use Rattle.law_lines.proofs.LineLawsProved.{not_empty, spelled-read_back}
+use Rattle.line_forms.proofs.Numbering.{number_of_earlier, same_some}
+use Rattle.law_lines.proofs.PassWords.{at_least_one_again}
+use Rattle.law_lines.proofs.WordKinds.{AThread, word_again}
 use Rattle.script_lang.specs.declared.item.ScriptLine.{ScriptLine}
 use Rattle.script_lang.specs.declared.item.ScriptLine.TheVariants.{Budget, Process, Child, Spare, Thread, Procedure, Do, Schedule}
 use Rattle.script_lang.specs.declared.item.ScriptPlace.{ScriptPlace}

@@ -3,21 +3,21 @@ use Rattle.std.proofs.Common.{◌≡◌, ℕ, ◌≤◌, ◌<◌, ◌^◌, Bool,
 use Rattle.std.specs.Prelude.{codes, bytes_eq, nat_le}
 use Rattle.std.proofs.lemmas.Bool.{le-leb, leb-true}
 use Rattle.std.proofs.lemmas.Slice.Eq.{bytes_eq-Decides}
-use Rattle.script_text.specs.Types.{Pid, Tid}
-use Rattle.script_text.specs.Words.{SpellsName, SpellsNumber, is_name}
+use Rattle.line_text.specs.Types.{Pid, Tid}
+use Rattle.line_text.specs.Words.{SpellsName, SpellsNumber, is_name}
 use Rattle.script_lang.specs.Types.{Keyword, Line}
-use Rattle.script_line.specs.declared.line.Line.TheVariants.{Create}
+use Rattle.line_forms.specs.declared.line.Line.TheVariants.{Create}
 use Rattle.line_reader.specs.Words.{Reader, Rest, declared_number, is_no_stop, items_to, line_with, name, name_from_word, next_word, nonempty_list, number, number_from_word, optional_word, parent, pid, pure, rest_of, then_read, thread_from_word, value_at_end, value_with_rest, ◌>>=◌}
-use Rattle.script_line.specs.Words.{ArePaths, Each, Ends, First, SpellsLine, SpellsParent, SpellsThread, Tables, Then, earlier_number, keyword_of, keyword_of_line, keyword_version, keyword_word}
-use Rattle.script_line.proofs.Numbering.{name_of_earlier}
-use Rattle.line_laws.proofs.DataWords.{GaveAll, items_found}
-use Rattle.line_laws.proofs.DescriptorWords.{Gave}
-use Rattle.line_laws.proofs.Given.{Clean, in_turn, no_answer, same_value, same_rest, name_given, number_given, declared_given, ended_given}
-use Rattle.line_laws.proofs.KeywordWords.{keyword-found, keyword-same, keyword-since}
-use Rattle.line_laws.proofs.LineFound.{line-found}
-use Rattle.line_laws.proofs.PassWords.{at_least_one_given}
+use Rattle.line_forms.specs.Words.{ArePaths, Each, Ends, First, SpellsLine, SpellsParent, SpellsThread, Tables, Then, earlier_number, keyword_of, keyword_of_line, keyword_version, keyword_word}
+use Rattle.line_forms.proofs.Numbering.{name_of_earlier}
+use Rattle.law_lines.proofs.DataWords.{GaveAll, items_found}
+use Rattle.law_lines.proofs.DescriptorWords.{Gave}
+use Rattle.law_lines.proofs.Given.{Clean, in_turn, no_answer, same_value, same_rest, name_given, number_given, declared_given, ended_given}
+use Rattle.law_lines.proofs.KeywordWords.{keyword-found, keyword-same, keyword-since}
+use Rattle.law_lines.proofs.LineFound.{line-found}
+use Rattle.law_lines.proofs.PassWords.{at_least_one_given}
 use Rattle.line_reader.proofs.SkippedWords.{at_words}
-use Rattle.line_laws.proofs.WordKinds.{AThread, word_found_at}
+use Rattle.law_lines.proofs.WordKinds.{AThread, word_found_at}
 use Rattle.script_lang.specs.declared.item.ScriptLine.{ScriptLine}
 use Rattle.script_lang.specs.declared.item.ScriptLine.TheVariants.{Budget, Process, Child, Spare, Thread, Procedure, Do, Schedule}
 use Rattle.script_lang.specs.declared.item.ScriptPlace.{ScriptPlace}

@@ -3,16 +3,16 @@ use Rattle.std.proofs.Common.{◌≡◌, ℕ, zero, suc, ◌<◌, Bool, true, fa
 use Rattle.std.specs.Prelude.{codes}
 use Rattle.std.proofs.lemmas.Bool.{false≢true}
 use Rattle.std.proofs.lemmas.List.{append-nil}
-use Rattle.script_text.specs.Types.{PathId}
-use Rattle.script_text.specs.Words.{has_name}
+use Rattle.line_text.specs.Types.{PathId}
+use Rattle.line_text.specs.Words.{has_name}
 use Rattle.script_lang.specs.Types.{Keyword, Line, Reason}
-use Rattle.script_line.specs.declared.keyword.Keyword.TheVariants as keyword
-use Rattle.script_line.specs.declared.line.Line.TheVariants.{Attach, Detach, Open, Await}
+use Rattle.line_forms.specs.declared.keyword.Keyword.TheVariants as keyword
+use Rattle.line_forms.specs.declared.line.Line.TheVariants.{Attach, Detach, Open, Await}
 use Rattle.line_reader.specs.Words.{Reader, Rest, attach_line, await_line, create_line, detach_line, fd_from_word, fork_line, interrupt_line, kill_line, line_with, name, name_from_word, next_word, open_line, path, path_id, pure, rest_of, value_at_end, ◌>>=◌}
-use Rattle.script_line.specs.Words.{HasPaths, SpellsLine, Tables, keyword_word, path_number, words_after_first}
-use Rattle.line_laws.proofs.Given.{in_turn, no_answer, same_value, same_rest, name_given, ended_given}
-use Rattle.line_laws.proofs.KeywordWords.{keyword-same}
-use Rattle.line_laws.proofs.LineFound.{line-found}
+use Rattle.line_forms.specs.Words.{HasPaths, SpellsLine, Tables, keyword_word, path_number, words_after_first}
+use Rattle.law_lines.proofs.Given.{in_turn, no_answer, same_value, same_rest, name_given, ended_given}
+use Rattle.law_lines.proofs.KeywordWords.{keyword-same}
+use Rattle.law_lines.proofs.LineFound.{line-found}
 use Rattle.line_reader.proofs.SkippedWords.{at_words, moved, SkipsWords, skips-name_from_word, skips-fd_from_word}
 use Rattle.script_lang.specs.TextTables.{path_of_words}
 use Rattle.script_lang.proofs.FirstUses.{place_within}

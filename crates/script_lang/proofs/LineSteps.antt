@@ -1,7 +1,7 @@
 -- The reading of the remaining lines, one line on.
 use Rattle.std.proofs.Common.{◌≡◌, ℕ, Bool, true, false, ◌+◌, List, ◌∷◌, Option, Some, None, Result, Ok, Err, refl}
 use Rattle.std.specs.Option.{option_or}
-use Rattle.script_line.specs.Words.{Tables}
+use Rattle.line_forms.specs.Words.{Tables}
 use Rattle.script_lang.specs.Types.{Reason}
 use Rattle.script_lang.specs.declared.bad.Bad.{Bad}
 use Rattle.script_lang.specs.declared.draft.Draft.{Draft}

@@ -3,12 +3,12 @@ use Rattle.std.proofs.Common.{◌≡◌, ℕ, ◌+◌, Bool, true, false, cond, 
 use Rattle.std.specs.Prelude.{map, filter_map, flat_map, nat_le}
 use Rattle.std.specs.List.{list_all, cons_option, onto_first}
 use Rattle.std.proofs.lemmas.Bool.{false≢true, and_from, and_parts}
-use Rattle.script_text.specs.Types.{PathId}
-use Rattle.script_text.specs.Words.{has_name, words_from, words_of, words_with}
-use Rattle.script_text.specs.declared.mode.Mode.TheVariants.{Between, Word as InWord, Text}
+use Rattle.line_text.specs.Types.{PathId}
+use Rattle.line_text.specs.Words.{has_name, words_from, words_of, words_with}
+use Rattle.line_text.specs.declared.mode.Mode.TheVariants.{Between, Word as InWord, Text}
 use Rattle.script_lang.specs.Types.{Reason}
-use Rattle.script_line.specs.declared.reason.Reason.TheVariants.{Byte, Twice, Many, Body as Misplaced}
-use Rattle.script_line.specs.Words.{ArePaths, Tables}
+use Rattle.line_forms.specs.declared.reason.Reason.TheVariants.{Byte, Twice, Many, Body as Misplaced}
+use Rattle.line_forms.specs.Words.{ArePaths, Tables}
 use Rattle.line_reader.specs.Words.{Reader, Rest, rest_of}
 use Rattle.script_lang.specs.declared.bad.Bad.{Bad}
 use Rattle.script_lang.specs.declared.item.ScriptLine.{ScriptLine}

@@ -3,12 +3,12 @@ use Rattle.std.proofs.Common.{◌≡◌, ℕ, Bool, true, false, cond, ◌==◌,
 use Rattle.std.specs.Prelude.{codes, bytes_eq, unwrap_or, slice_get}
 use Rattle.std.specs.List.{onto_first}
 use Rattle.std.proofs.lemmas.Bool.{eqb-true, or_parts}
-use Rattle.script_text.specs.Types.{PathId}
-use Rattle.script_text.specs.declared.mode.Mode.TheVariants.{Word}
-use Rattle.script_text.specs.Words.{words_from, words_of}
+use Rattle.line_text.specs.Types.{PathId}
+use Rattle.line_text.specs.declared.mode.Mode.TheVariants.{Word}
+use Rattle.line_text.specs.Words.{words_from, words_of}
 use Rattle.script_lang.specs.Types.{Line}
-use Rattle.script_line.specs.declared.line.Line.TheVariants.{Attach, Detach, Open, Await}
-use Rattle.script_line.specs.Words.{SpellsLine, Tables, keyword_of_line, keyword_word, path_word, paths_of}
+use Rattle.line_forms.specs.declared.line.Line.TheVariants.{Attach, Detach, Open, Await}
+use Rattle.line_forms.specs.Words.{SpellsLine, Tables, keyword_of_line, keyword_word, path_word, paths_of}
 use Rattle.script_lang.specs.declared.item.ScriptLine.{ScriptLine}
 use Rattle.script_lang.specs.declared.item.ScriptLine.TheVariants.{Budget, Process, Child, Spare, Thread, Procedure, Do, Schedule}
 use Rattle.script_lang.specs.Parsing.{is_skipped}

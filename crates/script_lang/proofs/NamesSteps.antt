@@ -4,9 +4,9 @@ use Rattle.std.specs.Prelude.{map, filter_map}
 use Rattle.std.specs.List.{cons_option}
 use Rattle.std.proofs.lemmas.List.{append_assoc, append-nil, length-append, take-append-le, take_all}
 use Rattle.std.proofs.lemmas.Bool.Decides.{nat_tests}
-use Rattle.script_text.specs.Types.{Pid}
-use Rattle.script_text.specs.Words.{has_name, lines_of, with_distinct_names, words_of}
-use Rattle.script_line.specs.Words.{Tables, no_names, qualified_name}
+use Rattle.line_text.specs.Types.{Pid}
+use Rattle.line_text.specs.Words.{has_name, lines_of, with_distinct_names, words_of}
+use Rattle.line_forms.specs.Words.{Tables, no_names, qualified_name}
 use Rattle.script_lang.specs.declared.names.Names.{Names}
 use Rattle.script_lang.specs.NamesThen.{with_room, names_then, names_with, names_with_process, names_with_thread, names_with_procedure, names_with_path, names_of_line}
 use Rattle.script_lang.specs.TextTables.{names_after, parent_of_words, parents_from, parents_with, process_of_words, thread_of_words, procedure_of_words, path_of_words, process_after, procedure_names_with as procedure_then, procedure_names_from, tables_of_lines}

@@ -6,10 +6,10 @@ use Rattle.std.proofs.lemmas.Bool.{and_parts, or_parts, or_right, not-true, ltb-
 use Rattle.std.proofs.lemmas.List.{append_assoc, append-nil, length-append}
 use Rattle.std.proofs.lemmas.List.Folds.{list_any-append}
 use Rattle.std.proofs.lemmas.Slice.Eq.{bytes_eq-Decides}
-use Rattle.script_text.specs.Types.{PathId}
-use Rattle.script_text.specs.Words.{are_distinct, first_uses, has_name, with_distinct_name, with_distinct_names}
-use Rattle.script_line.specs.Words.{Tables, path_word}
-use Rattle.script_line.proofs.Numbering.{same_some, no_value}
+use Rattle.line_text.specs.Types.{PathId}
+use Rattle.line_text.specs.Words.{are_distinct, first_uses, has_name, with_distinct_name, with_distinct_names}
+use Rattle.line_forms.specs.Words.{Tables, path_word}
+use Rattle.line_forms.proofs.Numbering.{same_some, no_value}
 use Rattle.script_lang.specs.Spelled.{path_count_after}
 
 own_name : (name : List ℕ) → bytes_eq name name ≡ true

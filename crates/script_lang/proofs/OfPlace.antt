@@ -1,11 +1,11 @@
 -- A line that is read is one of its place.
 use Rattle.std.proofs.Common.{◌≡◌, ℕ, Bool, true, false, cond, not, List, [], ◌∷◌, Option, Some, None, Result, Ok, Err, option_map, length, refl, ap, subst}
 use Rattle.std.specs.Prelude.{codes}
-use Rattle.script_text.specs.Types.{Pid}
-use Rattle.script_text.specs.Words.{words_of}
+use Rattle.line_text.specs.Types.{Pid}
+use Rattle.line_text.specs.Words.{words_of}
 use Rattle.script_lang.specs.Types.{Keyword, Line, Reason}
-use Rattle.script_line.specs.declared.reason.Reason.TheVariants.{Byte}
-use Rattle.script_line.specs.Words.{Tables, keyword_of}
+use Rattle.line_forms.specs.declared.reason.Reason.TheVariants.{Byte}
+use Rattle.line_forms.specs.Words.{Tables, keyword_of}
 use Rattle.line_reader.specs.Words.{Reader, Rest, is_no_stop, items_to, line_with, name, nonempty_list, number, optional_word, pure, rest_of, then_read, thread_from_word, value_at_end, value_at_end_of, ◌>>=◌}
 use Rattle.script_lang.specs.declared.item.ScriptLine.{ScriptLine}
 use Rattle.script_lang.specs.declared.item.ScriptLine.TheVariants.{Budget, Process, Child, Spare, Thread, Procedure, Do, Schedule}

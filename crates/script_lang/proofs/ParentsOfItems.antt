@@ -2,11 +2,11 @@
 use Rattle.std.proofs.Common.{◌≡◌, ℕ, ◌≤◌, true, false, List, [], ◌∷◌, ◌++◌, length, take, Option, Some, None, refl, sym, ap, ◌∙◌, arith}
 use Rattle.std.specs.Prelude.{map, filter_map, bytes_eq, codes, option_map, unwrap_or}
 use Rattle.std.proofs.lemmas.List.{append_assoc, take-append-le, take_all}
-use Rattle.script_text.specs.Types.{Pid}
-use Rattle.script_text.specs.Words.{are_distinct, words_of}
-use Rattle.script_line.specs.Words.{Tables, depth_after, earlier_number, kind_of, parent_named}
+use Rattle.line_text.specs.Types.{Pid}
+use Rattle.line_text.specs.Words.{are_distinct, words_of}
+use Rattle.line_forms.specs.Words.{Tables, depth_after, earlier_number, kind_of, parent_named}
 use Rattle.line_reader.specs.Words.{pid}
-use Rattle.script_line.proofs.Numbering.{number_of_earlier}
+use Rattle.line_forms.proofs.Numbering.{number_of_earlier}
 use Rattle.script_lang.specs.declared.item.ScriptLine.{ScriptLine}
 use Rattle.script_lang.specs.declared.item.ScriptLine.TheVariants.{Process, Child, Do}
 use Rattle.script_lang.specs.Context.{ContextValue, first_context, context_after, context_at_depth, context_with_variables}

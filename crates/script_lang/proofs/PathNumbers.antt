@@ -5,10 +5,10 @@ use Rattle.std.specs.List.{position_or_len}
 use Rattle.std.proofs.lemmas.Bool.Decides.{nat_tests}
 use Rattle.std.proofs.lemmas.List.{append_assoc, length-append}
 use Rattle.std.proofs.lemmas.Option.{slice_get-get_or, unwrap_or-slice_get}
-use Rattle.script_text.specs.Types.{PathId}
-use Rattle.script_text.specs.Words.{are_distinct, first_uses, has_name, with_distinct_name, with_distinct_names}
-use Rattle.script_line.specs.Words.{ArePaths, Tables, is_same, path_number, path_word}
-use Rattle.script_line.proofs.Numbering.{number_of_path}
+use Rattle.line_text.specs.Types.{PathId}
+use Rattle.line_text.specs.Words.{are_distinct, first_uses, has_name, with_distinct_name, with_distinct_names}
+use Rattle.line_forms.specs.Words.{ArePaths, Tables, is_same, path_number, path_word}
+use Rattle.line_forms.proofs.Numbering.{number_of_path}
 use Rattle.script_lang.specs.Spelled.{path_count_after}
 use Rattle.script_lang.proofs.FirstUses.{BeginsWith, names_first, first_uses-distinct, place_within, place_after}
 

@@ -4,13 +4,13 @@ use Rattle.std.proofs.lemmas.Bool.{false≢true, cases_lt}
 use Rattle.std.specs.List.{onto_first}
 use Rattle.std.specs.Prelude.{codes}
 use Rattle.std.proofs.lemmas.List.{append_assoc, take_more, take_all, drop_all, map-append}
-use Rattle.script_text.specs.Types.{Tid}
-use Rattle.script_text.specs.Words.{joined_words, spaced_words, text_of_lines}
-use Rattle.script_text.proofs.JoinedWords.{joined_first}
-use Rattle.script_text.proofs.TextLines.{text_of_lines-append}
+use Rattle.line_text.specs.Types.{Tid}
+use Rattle.line_text.specs.Words.{joined_words, spaced_words, text_of_lines}
+use Rattle.line_text.proofs.JoinedWords.{joined_first}
+use Rattle.line_text.proofs.TextLines.{text_of_lines-append}
 use Rattle.script_lang.specs.Types.{Line}
-use Rattle.script_line.specs.declared.line.Line.TheVariants.{End}
-use Rattle.script_line.specs.Words.{Tables, line_words, thread_word}
+use Rattle.line_forms.specs.declared.line.Line.TheVariants.{End}
+use Rattle.line_forms.specs.Words.{Tables, line_words, thread_word}
 use Rattle.script_lang.specs.declared.item.ScriptLine.{ScriptLine}
 use Rattle.script_lang.specs.declared.item.ScriptLine.TheVariants.{Budget, Do, Schedule}
 use Rattle.script_lang.specs.Canonical.{item_line}

@@ -1,7 +1,7 @@
 -- The reading of a text after its first line.
 use Rattle.std.proofs.Common.{◌≡◌, ℕ, true, List, [], ◌∷◌, Some, None, Result, Ok, Err, MatchResult, refl, sym, subst, ap, ◌∙◌}
-use Rattle.script_text.specs.Words.{lines_of}
-use Rattle.script_line.specs.Words.{Tables}
+use Rattle.line_text.specs.Words.{lines_of}
+use Rattle.line_forms.specs.Words.{Tables}
 use Rattle.script_lang.specs.declared.bad.Bad.{Bad}
 use Rattle.script_lang.specs.declared.bad.ParseFault.{ParseFault}
 use Rattle.script_lang.specs.declared.text_lines.LineReader.{LineReader}

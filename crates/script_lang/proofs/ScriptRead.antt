@@ -1,7 +1,7 @@
 -- A script that was read is one.
 use Rattle.std.proofs.Common.{◌≡◌, ℕ, true, List, ◌∷◌, [], Some, Result, Ok, Err, IfOk, refl, sym, ap, ◌∙◌, subst}
-use Rattle.script_text.specs.Words.{lines_of}
-use Rattle.script_line.specs.Words.{Tables}
+use Rattle.line_text.specs.Words.{lines_of}
+use Rattle.line_forms.specs.Words.{Tables}
 use Rattle.script_lang.specs.declared.bad.Bad.{Bad}
 use Rattle.script_lang.specs.declared.text_lines.LineReader.{LineReader}
 use Rattle.script_lang.specs.declared.text_reader.TextReader.{TextReader}

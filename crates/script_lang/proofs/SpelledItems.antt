@@ -1,7 +1,7 @@
 -- Induction over the lines that spell items.
 use Rattle.std.proofs.Common.{◌≡◌, ℕ, true, false, List, [], ◌∷◌, length, inl, inr}
-use Rattle.script_text.specs.Words.{words_of}
-use Rattle.script_line.specs.Words.{Tables}
+use Rattle.line_text.specs.Words.{words_of}
+use Rattle.line_forms.specs.Words.{Tables}
 use Rattle.script_lang.specs.declared.item.ScriptLine.{ScriptLine}
 use Rattle.script_lang.specs.Context.{ContextValue, is_closed, context_after}
 use Rattle.script_lang.specs.Parsing.{is_skipped, is_printable_line}

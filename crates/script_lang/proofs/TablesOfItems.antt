@@ -4,10 +4,10 @@ use Rattle.std.specs.Prelude.{map, filter_map, flat_map}
 use Rattle.std.specs.List.{cons_option}
 use Rattle.std.proofs.lemmas.Bool.{false≢true, leb-false}
 use Rattle.std.proofs.lemmas.List.{length-append, length-map, map-append, take_all}
-use Rattle.script_text.specs.Words.{words_of}
+use Rattle.line_text.specs.Words.{words_of}
 use Rattle.script_lang.specs.Types.{Line}
-use Rattle.script_line.specs.declared.line.Line.TheVariants.{Attach}
-use Rattle.script_line.specs.Words.{ProcedureName, Tables, depth_after, kind_of, path_word, paths_of}
+use Rattle.line_forms.specs.declared.line.Line.TheVariants.{Attach}
+use Rattle.line_forms.specs.Words.{ProcedureName, Tables, depth_after, kind_of, path_word, paths_of}
 use Rattle.script_lang.specs.declared.item.ScriptLine.{ScriptLine}
 use Rattle.script_lang.specs.declared.item.ScriptLine.TheVariants.{Budget, Process, Child, Spare, Thread, Procedure, Do, Schedule}
 use Rattle.script_lang.specs.declared.item.ScriptPlace.{ScriptPlace}

@@ -2,10 +2,10 @@
 use Rattle.std.proofs.Common.{◌≡◌, ℕ, Bool, true, false, cond, not, List, [], ◌∷◌, Option, Some, None, Result, Ok, Err, refl, sym, ap, ◌∙◌, subst}
 use Rattle.std.specs.Prelude.{bytes_eq, map, filter_map, flat_map, nat_le}
 use Rattle.std.proofs.lemmas.Bool.{le-leb}
-use Rattle.script_text.specs.Types.{Pid}
-use Rattle.script_text.specs.Words.{are_distinct, first_uses, lines_of, words_of}
-use Rattle.script_line.specs.declared.reason.Reason.TheVariants.{Byte}
-use Rattle.script_line.specs.Words.{ProcedureName, Tables, path_word}
+use Rattle.line_text.specs.Types.{Pid}
+use Rattle.line_text.specs.Words.{are_distinct, first_uses, lines_of, words_of}
+use Rattle.line_forms.specs.declared.reason.Reason.TheVariants.{Byte}
+use Rattle.line_forms.specs.Words.{ProcedureName, Tables, path_word}
 use Rattle.script_lang.specs.declared.bad.Bad.{Bad}
 use Rattle.script_lang.specs.declared.item.ScriptLine.{ScriptLine}
 use Rattle.script_lang.specs.Context.{first_context}

@@ -3,9 +3,9 @@ use Rattle.std.proofs.Common.{◌≡◌, ℕ, ◌+◌, true, List, [], ◌∷◌
 use Rattle.std.specs.Prelude.{map, filter_map, flat_map, bytes_eq}
 use Rattle.std.specs.List.{list_all}
 use Rattle.std.proofs.lemmas.Bool.{and_parts}
-use Rattle.script_text.specs.Types.{Pid}
-use Rattle.script_text.specs.Words.{are_distinct, first_uses, lines_of, words_of}
-use Rattle.script_line.specs.Words.{AreDistinct, ProcedureName, Tables}
+use Rattle.line_text.specs.Types.{Pid}
+use Rattle.line_text.specs.Words.{are_distinct, first_uses, lines_of, words_of}
+use Rattle.line_forms.specs.Words.{AreDistinct, ProcedureName, Tables}
 use Rattle.script_lang.specs.declared.item.ScriptLine.{ScriptLine}
 use Rattle.script_lang.specs.Context.{ContextValue, first_context}
 use Rattle.script_lang.specs.Canonical.{header}

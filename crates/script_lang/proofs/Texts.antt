@@ -1,13 +1,13 @@
 -- Texts by the definitions.
 use Rattle.std.proofs.Common.{◌≡◌, [], ◌∷◌, Some, refl, codes}
 use Rattle.std.specs.Fmt.{digits}
-use Rattle.script_text.specs.Words.{text_of_lines}
-use Rattle.script_line.specs.declared.reason.Reason.TheVariants.{Header, Word, Form, Range, Twice, Body, Open, Unknown}
+use Rattle.line_text.specs.Words.{text_of_lines}
+use Rattle.line_forms.specs.declared.reason.Reason.TheVariants.{Header, Word, Form, Range, Twice, Body, Open, Unknown}
 use Rattle.script_lang.specs.Parsing.{parse_result, first_bad_line, bad_line, line_read, line_spelling, canonical_of_text}
 use Rattle.script_lang.specs.Canonical.{canonical_text}
 use Rattle.script_lang.specs.TextTables.{tables_of_lines}
 use Rattle.script_lang.specs.Items.{budget_item, child_item, process_item, spare_item, thread_item}
-use Rattle.script_line.specs.Words.{keyword_create_to_info, keyword_getn_to_end, keyword_getparam_to_detach, keyword_open_to_get, keyword_since_2}
+use Rattle.line_forms.specs.Words.{keyword_create_to_info, keyword_getn_to_end, keyword_getparam_to_detach, keyword_open_to_get, keyword_since_2}
 use Rattle.line_reader.specs.Words.{advance_line, create_line, end_line, fork_line, ncd_line, repeat_line, return_line, send_line, tcreate_line, tdelete_line, tset_line}
 
 pub empty_input : first_bad_line [] ≡ Some (bad_line 1 Header)

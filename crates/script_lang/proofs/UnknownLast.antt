@@ -2,13 +2,13 @@
 use Rattle.std.proofs.Common.{◌≡◌, ℕ, ◌+◌, Bool, true, false, cond, not, List, [], ◌∷◌, Option, Some, None, Result, Ok, Err, refl, ap, sym, ◌∙◌}
 use Rattle.std.specs.Prelude.{⊤, codes, length, option_map}
 use Rattle.std.proofs.lemmas.Bool.{false≢true}
-use Rattle.script_text.specs.Words.{lines_of, words_of}
+use Rattle.line_text.specs.Words.{lines_of, words_of}
 use Rattle.script_lang.specs.Types.{Keyword, Reason}
-use Rattle.script_line.specs.declared.reason.Reason.TheVariants.{Byte, Form, Range, Twice, Many, Body as Misplaced, Unknown}
+use Rattle.line_forms.specs.declared.reason.Reason.TheVariants.{Byte, Form, Range, Twice, Many, Body as Misplaced, Unknown}
 use Rattle.line_reader.specs.Words.{Reader, Rest, is_no_stop, items_to, line_with, name, nonempty_list, number, optional_word, rest_of, thread_from_word}
-use Rattle.script_line.specs.Words.{Tables, keyword_of}
-use Rattle.line_laws.proofs.LineFailures.{line_fails}
-use Rattle.line_laws.proofs.OperandFailures.{is_of_operands, FailsByOperands, ByOperands, fails-pure, fails-then, fails-optional_word, fails-value_at_end, fails-number, fails-name, fails-misspelling, fails-parent, fails-thread_from_word, fails-items_to, fails-nonempty_list}
+use Rattle.line_forms.specs.Words.{Tables, keyword_of}
+use Rattle.law_lines.proofs.LineFailures.{line_fails}
+use Rattle.law_lines.proofs.OperandFailures.{is_of_operands, FailsByOperands, ByOperands, fails-pure, fails-then, fails-optional_word, fails-value_at_end, fails-number, fails-name, fails-misspelling, fails-parent, fails-thread_from_word, fails-items_to, fails-nonempty_list}
 use Rattle.script_lang.specs.declared.bad.Bad.{Bad}
 use Rattle.script_lang.specs.declared.item.ScriptLine.{ScriptLine}
 use Rattle.script_lang.specs.declared.item.ScriptLineRead.{ScriptLineRead}

@@ -6,9 +6,9 @@ use Rattle.std.specs.List.{list_all, list_any}
 use Rattle.std.proofs.lemmas.Bool.{and_from, and_parts, eqb-true, false≢true, le-leb}
 use Rattle.std.proofs.lemmas.List.Elements.{All-nil, All-cons, All-head, All-tail}
 use Rattle.std.proofs.lemmas.Slice.Eq.{bytes_eq-Decides}
-use Rattle.script_text.specs.Types.{Tid}
-use Rattle.script_text.proofs.PrintableWords.{are_printable}
-use Rattle.line_laws.proofs.TableWords.{find_among, find_passes}
+use Rattle.line_text.specs.Types.{Tid}
+use Rattle.line_text.proofs.PrintableWords.{are_printable}
+use Rattle.law_lines.proofs.TableWords.{find_among, find_passes}
 use Rattle.script_lang.specs.declared.item.ScriptLine.{ScriptLine}
 use Rattle.script_lang.specs.declared.item.ScriptLine.TheVariants.{Budget, Schedule}
 use Rattle.script_lang.specs.Canonical.{header}

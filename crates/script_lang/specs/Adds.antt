@@ -1,11 +1,11 @@
 -- What the reader's own contracts say of a line after others.
 use Rattle.std.specs.Prelude.{◌≡◌, ℕ, ◌&&◌, not, nat_le, List, length, Option, Some, None, Result, MatchResult, if◌then◌else◌}
-use Rattle.script_text.specs.Words.{has_name}
+use Rattle.line_text.specs.Words.{has_name}
 use Rattle.script_lang.specs.Types.{Line, Reason}
 use Rattle.line_reader.specs.declared.fault.Fault.{Fault}
 use Rattle.line_reader.specs.declared.fault.Fault.TheVariants.{Bad}
-use Rattle.script_line.specs.declared.reason.Reason.TheVariants.{Twice, Many, Body}
-use Rattle.script_line.specs.Words.{kind_of}
+use Rattle.line_forms.specs.declared.reason.Reason.TheVariants.{Twice, Many, Body}
+use Rattle.line_forms.specs.Words.{kind_of}
 use Rattle.script_lang.specs.Context.{ContextValue, is_line_over_limit, is_request}
 
 -- why a name may not be declared where these are

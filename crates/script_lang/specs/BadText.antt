@@ -1,7 +1,7 @@
 -- The line that answers a text that spells no script.
 use Rattle.std.specs.Prelude.{ℕ, List, [], ◌∷◌, ◌++◌, codes, decimal}
-use Rattle.script_text.specs.Words.{joined_words}
-use Rattle.script_line.specs.Words.{reason_word}
+use Rattle.line_text.specs.Words.{joined_words}
+use Rattle.line_forms.specs.Words.{reason_word}
 use Rattle.script_lang.specs.declared.bad.Bad.{Bad}
 
 -- `bad line N REASON` and a line feed

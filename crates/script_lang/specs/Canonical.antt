@@ -1,7 +1,7 @@
 -- The canonical text of a script: no skipped lines, single spaces and no indentation.
 use Rattle.std.specs.Prelude.{ℕ, List, [], ◌∷◌, ◌++◌, map, codes, decimal}
-use Rattle.script_text.specs.Words.{joined_words, text_of_lines}
-use Rattle.script_line.specs.Words.{Tables, line_words, process_word, thread_word}
+use Rattle.line_text.specs.Words.{joined_words, text_of_lines}
+use Rattle.line_forms.specs.Words.{Tables, line_words, process_word, thread_word}
 use Rattle.script_lang.specs.declared.item.ScriptLine.{ScriptLine}
 use Rattle.script_lang.specs.declared.item.ScriptLine.TheVariants.{Budget, Process, Child, Spare, Thread, Procedure, Do, Schedule}
 use Rattle.script_lang.specs.Value.{ScriptValue}

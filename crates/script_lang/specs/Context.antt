@@ -1,10 +1,10 @@
 -- What stands before a line, and whether a line may stand after it.
 use Rattle.std.specs.Prelude.{ℕ, Bool, true, false, ◌&&◌, ◌||◌, not, nat_lt, nat_le, List, [], ◌∷◌, ◌++◌, length, Option, Some, None, if◌then◌else◌}
-use Rattle.script_text.specs.Words.{has_name, with_distinct_names}
+use Rattle.line_text.specs.Words.{has_name, with_distinct_names}
 use Rattle.script_lang.specs.Types.{Kind, Line, Reason}
-use Rattle.script_line.specs.declared.line.Kind.TheVariants.{Act, Loop, Test, Closing}
-use Rattle.script_line.specs.declared.reason.Reason.TheVariants.{Twice, Many, Body as Misplaced}
-use Rattle.script_line.specs.Words.{depth_after, kind_of, variables_of}
+use Rattle.line_forms.specs.declared.line.Kind.TheVariants.{Act, Loop, Test, Closing}
+use Rattle.line_forms.specs.declared.reason.Reason.TheVariants.{Twice, Many, Body as Misplaced}
+use Rattle.line_forms.specs.Words.{depth_after, kind_of, variables_of}
 use Rattle.script_lang.specs.declared.item.ScriptLine.{ScriptLine}
 use Rattle.script_lang.specs.declared.item.ScriptLine.TheVariants.{Budget, Process, Child, Spare, Thread, Procedure, Do, Schedule}
 use Rattle.script_lang.specs.declared.item.ScriptPlace.{ScriptPlace}

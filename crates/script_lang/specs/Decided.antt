@@ -1,6 +1,6 @@
 -- Every text either spells one script, or has a first bad line with a reason.
 use Rattle.std.specs.Prelude.{ℕ, ◌≡◌, ⊤, true, List, ◌∷◌, Some, None, Result, Ok, Err}
-use Rattle.script_text.specs.Words.{lines_of}
+use Rattle.line_text.specs.Words.{lines_of}
 use Rattle.script_lang.specs.declared.bad.Bad.{Bad}
 use Rattle.script_lang.specs.declared.bad.ParseFault.{ParseFault}
 use Rattle.script_lang.specs.declared.bad.ParseFault.TheVariants.{Bad as BadLine, Memory as NoRoom}

@@ -1,6 +1,6 @@
 -- What the reader's own contracts say of the dispatch by first words.
 use Rattle.std.specs.Prelude.{Option, Some, None, Err}
-use Rattle.script_line.specs.declared.reason.Reason.TheVariants.{Word}
+use Rattle.line_forms.specs.declared.reason.Reason.TheVariants.{Word}
 use Rattle.line_reader.specs.Words.{Reader}
 use Rattle.script_lang.specs.declared.item.ScriptLine.{ScriptLine}
 

@@ -1,7 +1,7 @@
 -- What the reader's own contracts say of the parts of a script that it has made so far.
 use Rattle.std.specs.Prelude.{ℕ, Bool, true, false, List, [], ◌∷◌, ◌++◌, length, Option, Some, None, filter_map, flat_map}
 use Rattle.script_lang.specs.Types.{Line}
-use Rattle.script_line.specs.Words.{depth_after, kind_of}
+use Rattle.line_forms.specs.Words.{depth_after, kind_of}
 use Rattle.script_lang.specs.declared.draft.Draft.{Draft}
 use Rattle.script_lang.specs.declared.draft.Owner.{Owner}
 use Rattle.script_lang.specs.declared.draft.Owner.TheVariants.{Nobody, Thread as OfThread, Procedure as OfProcedure}

@@ -1,6 +1,6 @@
 -- What every `Script` keeps.
 use Rattle.std.specs.Prelude.{◌≡◌, Ok}
-use Rattle.script_line.specs.Words.{Tables}
+use Rattle.line_forms.specs.Words.{Tables}
 use Rattle.script_lang.specs.Canonical.{canonical_text}
 use Rattle.script_lang.specs.Parsing.{parse_result}
 use Rattle.script_lang.specs.Scripts.{tables_of}

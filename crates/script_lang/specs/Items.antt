@@ -1,8 +1,8 @@
 -- The lines of a script after the first, by their first words.
 use Rattle.std.specs.Prelude.{ℕ, Bool, true, false, ◌&&◌, List, Option, Some, None, option_map, length, bytes_eq, codes, if◌then◌else◌, nat_le}
-use Rattle.script_text.specs.Types.{Pid}
+use Rattle.line_text.specs.Types.{Pid}
 use Rattle.script_lang.specs.Types.{Keyword}
-use Rattle.script_line.specs.Words.{Tables, keyword_of}
+use Rattle.line_forms.specs.Words.{Tables, keyword_of}
 use Rattle.line_reader.specs.Words.{Reader, is_no_stop, items_to, line_with, name, misspelling, nonempty_list, number, optional_word, parent, pure, thread_from_word, value_at_end, ◌>>=◌}
 use Rattle.script_lang.specs.declared.item.ScriptLine.{ScriptLine}
 use Rattle.script_lang.specs.declared.item.ScriptLine.TheVariants.{Budget, Process, Child, Spare, Thread, Procedure, Do, Schedule}

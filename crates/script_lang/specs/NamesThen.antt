@@ -1,8 +1,8 @@
 -- What the reader's own contracts say of the names in a text.
 use Rattle.std.specs.Prelude.{ℕ, List, [], ◌∷◌, ◌++◌, ◌+◌, Option, Some, None, map, filter_map, take, length, nat_lt, if◌then◌else◌}
-use Rattle.script_text.specs.Types.{Pid}
-use Rattle.script_text.specs.Words.{with_distinct_name, with_distinct_names, words_of}
-use Rattle.script_line.specs.Words.{Tables, qualified_name}
+use Rattle.line_text.specs.Types.{Pid}
+use Rattle.line_text.specs.Words.{with_distinct_name, with_distinct_names, words_of}
+use Rattle.line_forms.specs.Words.{Tables, qualified_name}
 use Rattle.script_lang.specs.declared.names.Names.{Names}
 use Rattle.script_lang.specs.TextTables.{parent_of_words, parents_from, process_of_words, thread_of_words, procedure_of_words, path_of_words, procedure_names_from}
 use Rattle.dk_base.specs.declared.limits.TheConstants.{ALL_PROCEDURES_MAX, PROCESSES_MAX, THREADS_MAX}

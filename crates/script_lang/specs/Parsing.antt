@@ -1,10 +1,10 @@
 -- The script that a text spells, or its first bad line with the reason.
 use Rattle.std.specs.Prelude.{ℕ, Bool, true, false, ◌+◌, ◌==◌, not, List, [], ◌∷◌, Option, Some, None, Result, Ok, Err, bytes_eq, find, if◌then◌else◌}
 use Rattle.std.specs.List.{list_all}
-use Rattle.script_text.specs.Words.{is_printable, lines_of, words_of}
+use Rattle.line_text.specs.Words.{is_printable, lines_of, words_of}
 use Rattle.script_lang.specs.Types.{Reason}
-use Rattle.script_line.specs.declared.reason.Reason.TheVariants.{Byte, Header, Word, Open, Unknown}
-use Rattle.script_line.specs.Words.{Tables}
+use Rattle.line_forms.specs.declared.reason.Reason.TheVariants.{Byte, Header, Word, Open, Unknown}
+use Rattle.line_forms.specs.Words.{Tables}
 use Rattle.line_reader.specs.Words.{Reader, Rest, rest_of}
 use Rattle.script_lang.specs.declared.bad.Bad.{Bad}
 use Rattle.script_lang.specs.declared.item.ScriptLine.{ScriptLine}

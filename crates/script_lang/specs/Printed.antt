@@ -1,8 +1,8 @@
 -- What the printer's own contracts say.
 use Rattle.std.specs.Prelude.{ℕ, ◌≡◌, List, [], ◌∷◌, ◌++◌, map, Result, OnOk}
-use Rattle.script_text.specs.Types.{NoMemory}
-use Rattle.script_text.specs.Words.{text_of_lines}
-use Rattle.script_line.specs.Words.{Tables}
+use Rattle.line_text.specs.Types.{NoMemory}
+use Rattle.line_text.specs.Words.{text_of_lines}
+use Rattle.line_forms.specs.Words.{Tables}
 use Rattle.script_lang.specs.declared.item.ScriptLine.{ScriptLine}
 use Rattle.script_lang.specs.declared.print.Declared.{Declared}
 use Rattle.script_lang.specs.declared.print.Declared.TheVariants.{Process as TheProcess, Thread as TheThread, Procedure as TheProcedure}

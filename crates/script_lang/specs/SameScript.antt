@@ -4,9 +4,9 @@ use Rattle.std.specs.Bool.{Decides}
 use Rattle.std.proofs.Common.{rules, ap}
 use Rattle.std.proofs.lemmas.Bool.Decides.{Decides-like}
 use Rattle.dk_base.specs.Words.{bytes_exact, field_exact, flag_exact, last_exact, lists_exact, process_exact as pid_exact}
-use Rattle.script_line.specs.Words.{line_exact}
+use Rattle.line_forms.specs.Words.{line_exact}
 use Rattle.script_lang.specs.Types.{Line}
-use Rattle.script_text.specs.Types.{Pid}
+use Rattle.line_text.specs.Types.{Pid}
 use Rattle.script_lang.specs.declared.script.Part.{Part}
 use Rattle.script_lang.specs.declared.script.Procedure.{Procedure}
 use Rattle.script_lang.specs.declared.script.ScriptProcess.{ScriptProcess}

@@ -2,10 +2,10 @@
 use Rattle.std.specs.Prelude.{ℕ, zero, suc, Bool, true, false, ◌+◌, List, [], ◌∷◌, ◌++◌, Option, Some, None, map, flat_map, filter_map, option_map, unwrap_or}
 use Rattle.std.specs.List.{onto_first}
 use Rattle.dk_base.specs.ByNumber.{at_number}
-use Rattle.script_text.specs.Types.{Pid, Tid}
+use Rattle.line_text.specs.Types.{Pid, Tid}
 use Rattle.script_lang.specs.Types.{Line}
-use Rattle.script_line.specs.declared.line.Line.TheVariants.{End}
-use Rattle.script_line.specs.Words.{ProcedureName, Tables, depth_after, kind_of, qualified_name}
+use Rattle.line_forms.specs.declared.line.Line.TheVariants.{End}
+use Rattle.line_forms.specs.Words.{ProcedureName, Tables, depth_after, kind_of, qualified_name}
 use Rattle.script_lang.specs.declared.item.ScriptLine.{ScriptLine}
 use Rattle.script_lang.specs.declared.item.ScriptLine.TheVariants.{Budget, Process, Child, Spare, Thread, Procedure, Do, Schedule}
 use Rattle.script_lang.specs.declared.script.Part.{Part}

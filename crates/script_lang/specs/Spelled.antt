@@ -1,9 +1,9 @@
 -- Which script a text spells: from the script's lines to the text's, with no reader.
 use Rattle.std.specs.Prelude.{ℕ, ◌≡◌, ◌⊎◌, Bool, true, false, ◌+◌, ◌==◌, nat_le, nat_lt, List, [], ◌∷◌, Option, Some, None, length, flat_map, bytes_eq, codes, if◌then◌else◌}
 use Rattle.std.specs.List.{list_all, list_any}
-use Rattle.script_text.specs.Types.{PathId}
-use Rattle.script_text.specs.Words.{SpellsName, SpellsNumber, are_distinct, lines_of, words_of}
-use Rattle.script_line.specs.Words.{Each, Ends, First, Spelling, SpellsLine, SpellsParent, SpellsThread, Tables, Then, line_version, paths_of}
+use Rattle.line_text.specs.Types.{PathId}
+use Rattle.line_text.specs.Words.{SpellsName, SpellsNumber, are_distinct, lines_of, words_of}
+use Rattle.line_forms.specs.Words.{Each, Ends, First, Spelling, SpellsLine, SpellsParent, SpellsThread, Tables, Then, line_version, paths_of}
 use Rattle.script_lang.specs.declared.item.ScriptLine.{ScriptLine}
 use Rattle.script_lang.specs.declared.item.ScriptLine.TheVariants.{Budget, Process, Child, Spare, Thread, Procedure, Do, Schedule}
 use Rattle.script_lang.specs.declared.item.ScriptPlace.{ScriptPlace}

@@ -4,7 +4,7 @@ use Rattle.std.specs.Option.{option_or}
 use Rattle.line_reader.specs.declared.fault.Fault.{Fault}
 use Rattle.line_reader.specs.declared.fault.Fault.TheVariants.{Bad as BadLine}
 use Rattle.script_lang.specs.Types.{Reason}
-use Rattle.script_line.specs.Words.{Tables}
+use Rattle.line_forms.specs.Words.{Tables}
 use Rattle.script_lang.specs.declared.bad.Bad.{Bad}
 use Rattle.script_lang.specs.declared.bad.ParseFault.{ParseFault}
 use Rattle.script_lang.specs.declared.bad.ParseFault.TheVariants.{Bad as BadText}

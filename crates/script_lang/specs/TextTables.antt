@@ -2,9 +2,9 @@
 -- has a reason they are those of its script.
 use Rattle.std.specs.Prelude.{ℕ, ◌+◌, ◌++◌, List, [], ◌∷◌, Option, Some, None, map, filter_map, option_map, take, bytes_eq, codes, if◌then◌else◌}
 use Rattle.std.specs.Option.{option_or}
-use Rattle.script_text.specs.Words.{first_uses, words_of}
-use Rattle.script_text.specs.Types.{Pid}
-use Rattle.script_line.specs.Words.{ProcedureName, Tables, parent_named, qualified_name}
+use Rattle.line_text.specs.Words.{first_uses, words_of}
+use Rattle.line_text.specs.Types.{Pid}
+use Rattle.line_forms.specs.Words.{ProcedureName, Tables, parent_named, qualified_name}
 use Rattle.dk_base.specs.declared.limits.TheConstants.{ALL_PROCEDURES_MAX, PROCESSES_MAX, THREADS_MAX}
 
 -- the second word of a line whose first is this

@@ -1,6 +1,6 @@
 -- A script as data.
 use Rattle.std.specs.Prelude.{ℕ, List}
-use Rattle.script_text.specs.Types.{Tid}
+use Rattle.line_text.specs.Types.{Tid}
 use Rattle.script_lang.specs.declared.script.Part.{Part}
 use Rattle.script_lang.specs.declared.script.Procedure.{Procedure}
 use Rattle.script_lang.specs.declared.script.ScriptProcess.{ScriptProcess}

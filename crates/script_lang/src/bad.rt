@@ -2,8 +2,8 @@ ghost use Rattle.std.specs.Prelude.{◌≡◌};
 ghost use Rattle.script_lang.specs.declared.bad.ParseFault.TheVariants.{Memory};
 
 use dk_base::error::NoMemory;
+use line_forms::reason::Reason;
 use line_reader::fault::Fault;
-use script_line::reason::Reason;
 use thiserror::Error;
 
 /// The first bad line of a text, counted from 1, and the reason.

@@ -4,7 +4,7 @@ ghost use Rattle.script_lang.specs.BadText.{bad_text as text_of_bad};
 use crate::bad::Bad;
 use dk_base::error::NoMemory;
 use dk_base::list::Bytes;
-use script_text::writer::Writer;
+use line_text::writer::Writer;
 use std::alloc::Global;
 
 /// The line that answers a text that spells no script: `bad line N REASON`.

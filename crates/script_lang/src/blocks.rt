@@ -1,7 +1,7 @@
 ghost use Rattle.std.specs.Prelude.{◌≡◌, ◌<◌, ◌+◌, ◌^◌};
-ghost use Rattle.script_line.specs.Words.{depth_after as depth_after_item, kind_of as kind_of_line};
+ghost use Rattle.line_forms.specs.Words.{depth_after as depth_after_item, kind_of as kind_of_line};
 
-use script_line::line::{Kind, Line};
+use line_forms::line::{Kind, Line};
 
 /// What a line does to the blocks of its body.
 pub fn kind_of(line: &Line) -> Kind

@@ -1,6 +1,6 @@
 ghost use Rattle.std.specs.Prelude.{◌≡◌, ◌≤◌, ◌∷◌, ◌++◌, [], length, OnErr, OnOk};
 ghost use Rattle.dk_base.specs.declared.limits.TheConstants.{PROCESSES_MAX};
-ghost use Rattle.script_text.specs.Words.{has_name as has_such_name};
+ghost use Rattle.line_text.specs.Words.{has_name as has_such_name};
 ghost use Rattle.script_lang.specs.Adds.{Adds, name_fault};
 
 use crate::blocks::{depth_after, kind_of};
@@ -8,9 +8,9 @@ use crate::item::{ScriptLine, ScriptPlace};
 use crate::variables::add_variables;
 use dk_base::limits::{DEPTH_MAX, VARIABLES_MAX};
 use dk_base::list::{Bytes, Sequence};
+use line_forms::line::{Kind, Line};
+use line_forms::reason::Reason;
 use line_reader::fault::Fault;
-use script_line::line::{Kind, Line};
-use script_line::reason::Reason;
 use std::alloc::Global;
 use std::marker::Model;
 

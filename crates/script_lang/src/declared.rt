@@ -5,7 +5,7 @@ use dk_base::number::Tid;
 
 impl Script {
     ghost use Rattle.std.specs.Prelude.{◌≡◌, option_map};
-    ghost use Rattle.script_line.specs.Words.{procedure_word, thread_number, thread_word};
+    ghost use Rattle.line_forms.specs.Words.{procedure_word, thread_number, thread_word};
     ghost use Rattle.script_lang.specs.Scripts.{tables_of};
 
     /// The name of a thread or a spare, or nothing where there is none.

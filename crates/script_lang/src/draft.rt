@@ -1,6 +1,6 @@
 ghost use Rattle.std.specs.Prelude.{◌≡◌, ◌≤◌, ◌∷◌, ◌++◌, [], true, length, OnOk};
 ghost use Rattle.dk_base.specs.declared.limits.TheConstants.{DEPTH_MAX};
-ghost use Rattle.script_line.specs.Words.{depth_after as depth_after_item, kind_of as kind_of_line};
+ghost use Rattle.line_forms.specs.Words.{depth_after as depth_after_item, kind_of as kind_of_line};
 ghost use Rattle.script_lang.specs.Scripts.{limit_at, script_child, script_process};
 ghost use Rattle.script_lang.specs.IsScript.{IsScript};
 ghost use Rattle.script_lang.specs.Drafts.{empty_draft, draft_in_body, draft_after_body, draft_after, draft_with_part, draft_with_process, draft_with_thread, draft_with_procedure, draft_with_line, script_of_draft};
@@ -12,8 +12,8 @@ use dk_base::error::NoMemory;
 use dk_base::limits::{BUDGET_MAX, DESCRIPTORS_MAX};
 use dk_base::list::{Bytes, Sequence, TidList};
 use dk_base::number::{Pid, Tid};
-use script_line::line::{Body, Line};
-use script_line::tables::Tables;
+use line_forms::line::{Body, Line};
+use line_forms::tables::Tables;
 use std::alloc::Global;
 use std::mem;
 

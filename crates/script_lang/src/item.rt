@@ -1,6 +1,6 @@
 use dk_base::list::{Bytes, TidList};
 use dk_base::number::Pid;
-use script_line::line::Line;
+use line_forms::line::Line;
 
 /// A line of a script after the first, with numbers in place of names.
 #[derive(Drop)]

@@ -7,10 +7,10 @@ ghost use Rattle.script_lang.specs.Dispatch.{item_reader};
 
 use crate::item::ScriptLine;
 use dk_base::limits::{BUDGET_MAX, DESCRIPTORS_MAX};
+use line_forms::reason::Reason;
+use line_forms::tables::Tables;
 use line_reader::fault::Fault;
 use line_reader::line_rest::LineRest;
-use script_line::reason::Reason;
-use script_line::tables::Tables;
 use std::alloc::Global;
 
 /// `budget N`

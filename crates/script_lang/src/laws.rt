@@ -2,7 +2,7 @@
 //! function here does anything: each carries a law on the definitions.
 
 ghost use Rattle.std.specs.Prelude.{◌≡◌, ℕ, List, Ok, Err};
-ghost use Rattle.script_line.specs.declared.reason.Reason.TheVariants.{Unknown};
+ghost use Rattle.line_forms.specs.declared.reason.Reason.TheVariants.{Unknown};
 ghost use Rattle.script_lang.specs.Canonical.{canonical_text};
 ghost use Rattle.script_lang.specs.Decided.{IsDecided, IsOnlyUnknown};
 ghost use Rattle.script_lang.specs.Parsing.{bad_line, parse_result};

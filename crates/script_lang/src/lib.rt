@@ -21,7 +21,7 @@ mod text_reader;
 mod variables;
 pub mod worked;
 
-pub use script_line::line::{
+pub use line_forms::line::{
     Body, Cond, FdArg, FdArgList, Line, PassArg, PassArgList, Piece, PieceList,
 };
-pub use script_line::reason::Reason;
+pub use line_forms::reason::Reason;

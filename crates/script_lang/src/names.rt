@@ -1,16 +1,16 @@
 //! The names that a text declares and the paths that it uses, by the first words of its lines.
 
 ghost use Rattle.std.specs.Prelude.{◌≡◌, ◌≤◌, ◌<◌, ◌+◌, ◌^◌, [], Some, IfOk, OnOk, option_copied, length};
-ghost use Rattle.script_text.specs.Words.{lines_of, words_of};
+ghost use Rattle.line_text.specs.Words.{lines_of, words_of};
 ghost use Rattle.script_lang.specs.TextTables.{second_of as second_of_words, third_of as third_of_words, fourth_of as fourth_of_words, process_of_words, parent_of_words, thread_of_words, procedure_of_words, path_of_words, tables_of_lines};
 ghost use Rattle.script_lang.specs.NamesThen.{names_with_process, names_with_thread, names_with_procedure, names_of_line};
 
 use dk_base::error::NoMemory;
 use dk_base::limits::{ALL_PROCEDURES_MAX, PROCESSES_MAX, THREADS_MAX};
 use dk_base::number::Pid;
-use script_line::tables::Tables;
-use script_text::lines::next_line;
-use script_text::words::next_word;
+use line_forms::tables::Tables;
+use line_text::lines::next_line;
+use line_text::words::next_word;
 use std::alloc::Global;
 
 /// The second word of a line whose first is this one.

@@ -8,9 +8,9 @@ use crate::names::tables_of_text;
 use crate::script::Script;
 use crate::text_lines::{LineReader, is_printable_line};
 use crate::text_reader::TextReader;
+use line_forms::reason::Reason;
 use line_reader::fault::Fault;
-use script_line::reason::Reason;
-use script_text::lines::next_line;
+use line_text::lines::next_line;
 use std::alloc::Global;
 
 /// The version that a text's first line names.

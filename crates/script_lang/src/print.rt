@@ -1,8 +1,8 @@
 //! The canonical text of a script: no skipped lines, single spaces and no indentation.
 
 ghost use Rattle.std.specs.Prelude.{◌≡◌, ◌∷◌, [], ◌++◌, map, codes, Ok, IfOk, OnOk, MatchOption};
-ghost use Rattle.script_text.specs.Words.{joined_words, spaced_words};
-ghost use Rattle.script_line.specs.Words.{thread_word};
+ghost use Rattle.line_text.specs.Words.{joined_words, spaced_words};
+ghost use Rattle.line_forms.specs.Words.{thread_word};
 ghost use Rattle.script_lang.specs.declared.item.ScriptLine.TheVariants.{Budget, Do, Schedule};
 ghost use Rattle.script_lang.specs.Canonical.{canonical_text};
 ghost use Rattle.script_lang.specs.Printed.{items_text, PutsScriptLines, declared_items};
@@ -14,10 +14,10 @@ use crate::script::{Part, Procedure, Script, ScriptProcess, ScriptThread};
 use dk_base::error::NoMemory;
 use dk_base::list::Bytes;
 use dk_base::number::Tid;
+use line_forms::line::Line;
+use line_forms::tables::Tables;
+use line_text::writer::Writer;
 use line_writer::put_line::put_line;
-use script_line::line::Line;
-use script_line::tables::Tables;
-use script_text::writer::Writer;
 use std::alloc::Global;
 use std::marker::Model;
 

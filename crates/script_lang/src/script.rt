@@ -1,8 +1,8 @@
 use crate::laws;
 use dk_base::list::{Bytes, Sequence, TidList};
 use dk_base::number::{Pid, Tid};
-use script_line::line::Body;
-use script_line::tables::Tables;
+use line_forms::line::Body;
+use line_forms::tables::Tables;
 use std::marker::Model;
 
 /// A process of a script. Processes are numbered from 1 in order, children with them.

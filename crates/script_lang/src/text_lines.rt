@@ -1,6 +1,6 @@
 ghost use Rattle.std.specs.Prelude.{◌≡◌, ◌≤◌, length, Ok, Err, MatchResult, MatchOption, IfOk};
 ghost use Rattle.std.specs.List.{list_all};
-ghost use Rattle.script_text.specs.Words.{is_printable as is_printable_byte};
+ghost use Rattle.line_text.specs.Words.{is_printable as is_printable_byte};
 ghost use Rattle.line_reader.specs.Words.{Fails, ReadsOn};
 ghost use Rattle.script_lang.specs.Dispatch.{item_reader};
 ghost use Rattle.script_lang.specs.Items.{item_in_body as item_in_body_read, item_in_context};
@@ -9,13 +9,13 @@ ghost use Rattle.script_lang.specs.Parsing.{is_printable_line as is_line_printab
 use crate::context::Context;
 use crate::item::{ScriptLine, ScriptLineRead, ScriptPlace};
 use crate::items::{item_at_start, item_in_members, item_in_processes, item_in_schedule};
+use line_forms::keyword_words::keyword_of;
+use line_forms::reason::Reason;
+use line_forms::tables::Tables;
 use line_reader::fault::Fault;
 use line_reader::line_rest::LineRest;
-use script_line::keyword_words::keyword_of;
-use script_line::reason::Reason;
-use script_line::tables::Tables;
-use script_text::string::is_printable;
-use script_text::words::next_word;
+use line_text::string::is_printable;
+use line_text::words::next_word;
 use std::alloc::Global;
 
 /// Whether each byte may stand in a line of a script.

@@ -3,7 +3,7 @@ ghost use Rattle.script_lang.specs.Context.{first_context};
 ghost use Rattle.script_lang.specs.Drafts.{empty_draft};
 ghost use Rattle.script_lang.specs.IsScript.{IsScript};
 ghost use Rattle.script_lang.specs.TextReaderContracts.{IsInStep, remaining_result, Refuses, AddsScriptLine, ReadsLine, ReadsOne};
-ghost use Rattle.script_text.specs.Words.{lines_of};
+ghost use Rattle.line_text.specs.Words.{lines_of};
 
 use crate::bad::ParseFault;
 use crate::context::Context;
@@ -12,9 +12,9 @@ use crate::item::ScriptLineRead;
 use crate::script::Script;
 use crate::text_lines::LineReader;
 use dk_base::number::Pid;
+use line_forms::reason::Reason;
 use line_reader::fault::Fault;
-use script_line::reason::Reason;
-use script_text::lines::next_line;
+use line_text::lines::next_line;
 
 /// What the lines so far are, and what the next ones need.
 #[derive(Drop)]

@@ -1,11 +1,11 @@
 ghost use Rattle.std.specs.Prelude.{◌≡◌, ◌++◌, flat_map, OnOk};
-ghost use Rattle.script_text.specs.Words.{with_distinct_name, with_distinct_names};
-ghost use Rattle.script_line.specs.Words.{fd_variables, pass_variables, piece_variables, variables_of};
+ghost use Rattle.line_text.specs.Words.{with_distinct_name, with_distinct_names};
+ghost use Rattle.line_forms.specs.Words.{fd_variables, pass_variables, piece_variables, variables_of};
 
 use dk_base::error::NoMemory;
 use dk_base::list::{Bytes, Sequence};
-use script_line::line::{FdArg, Line, PassArg, Piece};
-use script_text::names::add_name;
+use line_forms::line::{FdArg, Line, PassArg, Piece};
+use line_text::names::add_name;
 use std::alloc::Global;
 
 /// Puts the variable of a descriptor after these names, unless it is among them.

@@ -1,8 +1,8 @@
 //! Worked texts, by the definitions.
 
 ghost use Rattle.std.specs.Prelude.{◌≡◌, [], ◌∷◌, Some, codes};
-ghost use Rattle.script_text.specs.Words.{text_of_lines};
-ghost use Rattle.script_line.specs.declared.reason.Reason.TheVariants.{Header, Word, Form, Range, Twice, Body, Open, Unknown};
+ghost use Rattle.line_text.specs.Words.{text_of_lines};
+ghost use Rattle.line_forms.specs.declared.reason.Reason.TheVariants.{Header, Word, Form, Range, Twice, Body, Open, Unknown};
 ghost use Rattle.script_lang.specs.Parsing.{first_bad_line, bad_line, canonical_of_text};
 
 /// Texts that spell no script, with the first bad line and its reason.

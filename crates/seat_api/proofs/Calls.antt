@@ -1,12 +1,12 @@
 -- What a call of a seat does, put together from its turn and what it did there.
 use Rattle.std.proofs.Common.{◌≡◌, ℕ, List, [], ◌∷◌, ◌++◌, length, ap, refl, subst, sym, ◌∙◌, arith}
 use mathlib.Core.List.{IsPrefix}
-use Rattle.written_kernel.specs.Words.{State}
-use Rattle.seat_calls.specs.declared.call.SeatAct.{SeatAct}
-use Rattle.seat_calls.specs.declared.call.SeatReply.{SeatReply}
+use Rattle.spec_kernel.specs.Words.{State}
+use Rattle.spec_histories.specs.declared.call.SeatAct.{SeatAct}
+use Rattle.spec_histories.specs.declared.call.SeatReply.{SeatReply}
 use Rattle.seat_table.specs.Rule.{InTurn, TakesTurn, left, opened, told}
 use Rattle.seat_table.proofs.Entries.{by-mine}
-use Rattle.seat_calls.specs.declared.entry.SeatEntry.{SeatEntry}
+use Rattle.spec_histories.specs.declared.entry.SeatEntry.{SeatEntry}
 use Rattle.seat_api.specs.History.{IsLegal, by, reply_of, state_after}
 use Rattle.seat_api.specs.Seating.{Chair, Extends, Sits, Sitting, entry_of}
 use Rattle.seat_desk.proofs.Histories.{legal-last}

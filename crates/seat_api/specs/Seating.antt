@@ -2,12 +2,12 @@
 use Rattle.std.specs.Prelude.{◌≡◌, ℕ, ◌<◌, ◌≤◌, List, [], ◌∷◌, ◌++◌, length}
 use Rattle.atomic_table.specs.Seated.{TableId}
 use Rattle.dk_base.specs.declared.number.Tid.{Tid}
-use Rattle.written_kernel.specs.Words.{State}
-use Rattle.seat_calls.specs.declared.call.SeatAct.{SeatAct}
-use Rattle.seat_calls.specs.declared.call.SeatReply.{SeatReply}
+use Rattle.spec_kernel.specs.Words.{State}
+use Rattle.spec_histories.specs.declared.call.SeatAct.{SeatAct}
+use Rattle.spec_histories.specs.declared.call.SeatReply.{SeatReply}
 use Rattle.seat_table.specs.declared.view.Stage.TheVariants.{Out}
 use Rattle.seat_table.specs.Rule as turn
-use Rattle.seat_calls.specs.declared.entry.SeatEntry.{SeatEntry}
+use Rattle.spec_histories.specs.declared.entry.SeatEntry.{SeatEntry}
 use Rattle.seat_api.specs.declared.limits.TheConstants.{CALLS_MAX, SEATS_MAX}
 use Rattle.seat_api.specs.History.{IsLegal, by, reply_of, state_after}
 

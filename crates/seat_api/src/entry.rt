@@ -1,4 +1,4 @@
 //! Calls of seats with their replies.
 
-pub use seat_calls::call::{SeatAct, SeatReply};
-pub use seat_calls::entry::SeatEntry;
+pub use spec_histories::call::{SeatAct, SeatReply};
+pub use spec_histories::entry::SeatEntry;

@@ -1,3 +1,3 @@
 //! A kernel as seats ask it.
 
-pub use answering_kernel::asked::Answers;
+pub use spec_kernel::answering::Answers;

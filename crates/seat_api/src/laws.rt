@@ -2,9 +2,9 @@
 
 ghost use Rattle.std.specs.Prelude.{◌≡◌, ◌+◌, ◌≤◌, List, length, map};
 ghost use Rattle.dk_base.specs.declared.limits.TheConstants.{EVENTS_MAX};
-ghost use Rattle.written_kernel.specs.Words.{IsRun, State, answers_of, state_after as state_after_turns};
-ghost use Rattle.seat_calls.specs.declared.entry.SeatEntry.{SeatEntry};
-ghost use Rattle.seat_calls.specs.declared.call.SeatReply.TheVariants.{Answer};
+ghost use Rattle.spec_kernel.specs.Words.{IsRun, State, answers_of, state_after as state_after_turns};
+ghost use Rattle.spec_histories.specs.declared.entry.SeatEntry.{SeatEntry};
+ghost use Rattle.spec_histories.specs.declared.call.SeatReply.TheVariants.{Answer};
 ghost use Rattle.seat_api.specs.History.{AreAnswers, IsLegal, answered, replies, state_after, turns};
 
 /// The answered calls of a legal history are a run from the same state (`run`), the replies to them are the answers of its steps

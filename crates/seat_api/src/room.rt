@@ -1,3 +1,3 @@
 //! Room for an answer, which is taken before the kernel is called.
 
-pub use seat_calls::room::AnswerRoom;
+pub use spec_histories::room::AnswerRoom;

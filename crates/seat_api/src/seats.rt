@@ -1,8 +1,8 @@
 //! The table that seats share, and a seat at it.
 ghost use Rattle.std.specs.Prelude.{◌≡◌, ◌+◌, ◌<◌, ◌≤◌, [], length, IfOk, IfErr, IsOk, true, OnErr};
 ghost use mathlib.Core.List.{IsPrefix};
-ghost use Rattle.written_kernel.specs.Words.{IsFit};
-ghost use Rattle.seat_calls.specs.declared.call.SeatAct.TheVariants.{Enter, GoOn};
+ghost use Rattle.spec_kernel.specs.Words.{IsFit};
+ghost use Rattle.spec_histories.specs.declared.call.SeatAct.TheVariants.{Enter, GoOn};
 ghost use Rattle.seat_table.specs.Rule.{longer};
 ghost use Rattle.seat_api.specs.declared.limits.TheConstants.{CALLS_MAX, HISTORY_MAX, SEATS_MAX};
 ghost use Rattle.seat_api.specs.History.{IsFitAct, is_allowed};
@@ -17,7 +17,7 @@ use dk_base::request::Request;
 use kernel_core::kernel::Kernel;
 use seat_desk::desk::Desk;
 use seat_table::table::{Place, SeatTable};
-use seat_turns::turns::{meet, take_turn};
+use seat_table::turns::{meet, take_turn};
 use std::alloc::Global;
 use std::marker::Model;
 use std::sync::Wait;

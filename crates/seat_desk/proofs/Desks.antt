@@ -3,16 +3,16 @@ use Rattle.std.proofs.Common.{◌≡◌, ℕ, suc, ◌<◌, ◌≤◌, List, [],
 use Rattle.dk_base.specs.ByNumber.{at_number}
 use Rattle.dk_base.specs.declared.limits.TheConstants.{EVENTS_MAX}
 use Rattle.dk_base.specs.declared.request.Request.TheVariants as request
-use Rattle.kernel_records.specs.Words.{parent_in}
-use Rattle.kernel_records.proofs.Lists.{same_numbered}
-use Rattle.written_kernel.specs.Types.{Pid, Process, Request}
-use Rattle.written_kernel.specs.Words.{IsFit, IsOpening, StandsFor, State, Turn, forget, parent_of, process_of, step}
-use Rattle.written_kernel.proofs.Opening.{forget-opening}
-use Rattle.written_kernel.proofs.Runs.{events-state_after}
-use Rattle.written_kernel.proofs.Steps.{ProcessIdentity, process_identity, process_of-step, processes-step, step-keeps, threads-step}
-use Rattle.seat_calls.specs.declared.call.SeatAct.{SeatAct}
-use Rattle.seat_calls.specs.declared.call.SeatAct.TheVariants.{Enter, GoOn}
-use Rattle.seat_calls.specs.declared.entry.SeatEntry.{SeatEntry}
+use Rattle.spec_records.specs.Words.{parent_in}
+use Rattle.spec_records.proofs.Lists.{same_numbered}
+use Rattle.spec_kernel.specs.Types.{Pid, Process, Request}
+use Rattle.spec_kernel.specs.Words.{IsFit, IsOpening, StandsFor, State, Turn, forget, parent_of, process_of, step}
+use Rattle.spec_kernel.proofs.Opening.{forget-opening}
+use Rattle.spec_kernel.proofs.Runs.{events-state_after}
+use Rattle.spec_kernel.proofs.Steps.{ProcessIdentity, process_identity, process_of-step, processes-step, step-keeps, threads-step}
+use Rattle.spec_histories.specs.declared.call.SeatAct.{SeatAct}
+use Rattle.spec_histories.specs.declared.call.SeatAct.TheVariants.{Enter, GoOn}
+use Rattle.spec_histories.specs.declared.entry.SeatEntry.{SeatEntry}
 use Rattle.seat_table.specs.declared.limits.TheConstants.{HISTORY_MAX}
 use Rattle.seat_desk.specs.Desk.{IsDesk}
 use Rattle.seat_desk.specs.History.{Follows, IsFitAct, IsLegal, answered, by, is_allowed, is_answered, reply_of, request_of, state_after, state_by, turns}

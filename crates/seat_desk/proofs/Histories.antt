@@ -2,12 +2,12 @@
 use Rattle.std.proofs.Common.{◌≡◌, ℕ, ◌+◌, ◌<◌, ◌≤◌, List, [], ◌∷◌, ◌++◌, Bool, true, false, cond, if◌then◌else◌, not, ◌&&◌, length, map, refl, ap, sym, subst, ◌∙◌, arith, append_assoc}
 use Rattle.std.proofs.lemmas.List.{append-nil}
 use Rattle.dk_base.specs.declared.limits.TheConstants.{EVENTS_MAX}
-use Rattle.written_kernel.specs.Words.{IsRun, MayTurn, State, answers_of, is_runnable, is_running, state_after as state_after_turns, step}
-use Rattle.written_kernel.proofs.Steps.{events-step}
-use Rattle.seat_calls.specs.declared.call.SeatAct.{SeatAct}
-use Rattle.seat_calls.specs.declared.call.SeatAct.TheVariants.{Enter, GoOn}
-use Rattle.seat_calls.specs.declared.entry.SeatEntry.{SeatEntry}
-use Rattle.seat_calls.specs.declared.call.SeatReply.TheVariants.{Answer}
+use Rattle.spec_kernel.specs.Words.{IsRun, MayTurn, State, answers_of, is_runnable, is_running, state_after as state_after_turns, step}
+use Rattle.spec_kernel.proofs.Steps.{events-step}
+use Rattle.spec_histories.specs.declared.call.SeatAct.{SeatAct}
+use Rattle.spec_histories.specs.declared.call.SeatAct.TheVariants.{Enter, GoOn}
+use Rattle.spec_histories.specs.declared.entry.SeatEntry.{SeatEntry}
+use Rattle.spec_histories.specs.declared.call.SeatReply.TheVariants.{Answer}
 use Rattle.seat_desk.specs.History.{AreAnswers, Follows, IsFitAct, IsLegal, IsLegalAfter, answered, is_answer, is_answered, refusal, replies, reply_of, request_of, state_after, state_by, turns}
 
 pub state-snoc :

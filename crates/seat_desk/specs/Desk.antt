@@ -1,7 +1,7 @@
 -- What the one slot of the table holds: a kernel with the history of its calls.
 use Rattle.std.specs.Prelude.{◌≡◌, List}
-use Rattle.written_kernel.specs.Words.{IsOpening, StandsFor, State}
-use Rattle.seat_calls.specs.declared.entry.SeatEntry.{SeatEntry}
+use Rattle.spec_kernel.specs.Words.{IsOpening, StandsFor, State}
+use Rattle.spec_histories.specs.declared.entry.SeatEntry.{SeatEntry}
 use Rattle.seat_desk.specs.History.{IsLegal, state_after}
 
 -- the history is legal from the opening state, and the kernel stands for the state after it

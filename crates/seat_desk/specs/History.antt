@@ -1,11 +1,11 @@
 -- Histories of calls by seats, and which of them are legal.
 use Rattle.std.specs.Prelude.{ℕ, ◌≡◌, ◌==◌, List, [], ◌∷◌, ◌++◌, Bool, true, false, filter, length, map}
-use Rattle.written_kernel.specs.Words.{State, Turn}
-use Rattle.seat_calls.specs.declared.call.SeatReply.{SeatReply}
-use Rattle.seat_calls.specs.declared.call.SeatReply.TheVariants.{Answer}
-pub use Rattle.seat_calls.specs.Replies.{IsFitAct, is_allowed, is_answered, refusal, reply_of, request_of, state_by}
+use Rattle.spec_kernel.specs.Words.{State, Turn}
+use Rattle.spec_histories.specs.declared.call.SeatReply.{SeatReply}
+use Rattle.spec_histories.specs.declared.call.SeatReply.TheVariants.{Answer}
+pub use Rattle.spec_histories.specs.Replies.{IsFitAct, is_allowed, is_answered, refusal, reply_of, request_of, state_by}
 use Rattle.seat_table.specs.Sums.{Every}
-use Rattle.seat_calls.specs.declared.entry.SeatEntry.{SeatEntry}
+use Rattle.spec_histories.specs.declared.entry.SeatEntry.{SeatEntry}
 
 -- the state after a history
 abbrev pub state_after : State → List SeatEntry → State

@@ -4,14 +4,14 @@ ghost use Rattle.seat_table.specs.declared.limits.TheConstants.{HISTORY_MAX};
 ghost use Rattle.seat_desk.specs.History.{IsFitAct, IsLegal, by};
 
 use crate::opening::Opening;
-use answering_kernel::asked::Answers;
+use crate::replies::{Replied, reply};
 use dk_base::error::NoMemory;
 use dk_base::list::Room;
 use dk_base::number::Tid;
-use seat_calls::call::{SeatAct, SeatReply};
-use seat_calls::entry::SeatEntry;
-use seat_replies::replies::{Replied, reply};
 use seat_table::Recorded;
+use spec_histories::call::{SeatAct, SeatReply};
+use spec_histories::entry::SeatEntry;
+use spec_kernel::answering::Answers;
 use std::alloc::{AllocFailed, Global};
 use std::marker::{Model, PhantomData};
 
@@ -37,7 +37,7 @@ impl<K: Answers, J: Opening> Drop for Desk<K, J> {
 
 impl<K: Answers, J: Opening> Model for Desk<K, J> {
     ghost use Rattle.std.specs.Prelude.{List};
-    ghost use Rattle.seat_calls.specs.declared.entry.SeatEntry.{SeatEntry};
+    ghost use Rattle.spec_histories.specs.declared.entry.SeatEntry.{SeatEntry};
     ghost use Rattle.seat_desk.specs.Desk.{IsDesk};
 
     ghost Value = { List SeatEntry };

@@ -3,3 +3,4 @@
 
 pub mod desk;
 pub mod opening;
+pub mod replies;

@@ -2,3 +2,4 @@ pub mod Lists
 pub mod Entries
 pub mod Rules
 pub mod Calls
+pub mod TurnCalls

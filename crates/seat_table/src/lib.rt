@@ -4,6 +4,7 @@
 pub mod limits;
 mod rule;
 pub mod table;
+pub mod turns;
 pub mod view;
 
 pub use rule::Recorded;

@@ -2,9 +2,9 @@
 use Rattle.std.proofs.Common.{◌≡◌, ℕ, zero, suc, ◌-◌, ◌<◌, ◌==◌, true, false, List, [], ◌∷◌, Option, Some, None, is_some, option_map, set, slice_get, refl, sym, ap, subst, ◌∙◌, arith}
 use Rattle.std.proofs.lemmas.Bool.Decides.{nat_tests}
 use Rattle.dk_base.specs.ByNumber.{at_number, with_at_number}
-use Rattle.kernel_records.specs.declared.pool.Pool.{Pool}
-use Rattle.kernel_records.specs.declared.pool.Pool.TheVariants.{Common, Private}
-use Rattle.kernel_records.specs.Words.{is_pool}
+use Rattle.spec_records.specs.declared.pool.Pool.{Pool}
+use Rattle.spec_records.specs.declared.pool.Pool.TheVariants.{Common, Private}
+use Rattle.spec_records.specs.Words.{is_pool}
 use Rattle.server_pool.specs.Words.{PoolValue, PoolsValue, change_at_number, change_item, change_pool, empty_pool, pool_at, pool_or_empty, thread_room_in}
 
 -- an item of a list

@@ -1,8 +1,8 @@
 -- The thread on top of a stack with the first item of a queue, and the calls that are left.
 use Rattle.std.proofs.Common.{◌≡◌, ℕ, ◌+◌, ◌<◌, true, cond, List, [], ◌∷◌, ◌++◌, Some, if◌then◌else◌, sym, ap, subst, ◌∙◌, arith}
 use Rattle.std.proofs.lemmas.List.Sums.{sum_by-cons}
-use Rattle.kernel_records.specs.declared.pool.Parked.{Parked}
-use Rattle.kernel_records.specs.declared.pool.Waiting.{Waiting}
+use Rattle.spec_records.specs.declared.pool.Parked.{Parked}
+use Rattle.spec_records.specs.declared.pool.Waiting.{Waiting}
 use Rattle.server_pool.specs.Words.{IsStack, count_calls, first_match, is_call, is_waiting_call, match_of, next_of, pick_of}
 use Rattle.server_pool.proofs.Order.{ordered_less, top_picked}
 

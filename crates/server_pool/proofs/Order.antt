@@ -3,8 +3,8 @@ use Rattle.std.proofs.Common.{◌≡◌, inl, inr, ℕ, zero, suc, ◌-◌, Bool
 use Rattle.std.proofs.lemmas.Option.{same_Some}
 use Rattle.std.specs.List.{AllByRecursion, fold, list_all}
 use Rattle.std.proofs.lemmas.Bool.Decides.{nat_tests}
-use Rattle.kernel_records.specs.declared.pool.Parked.{Parked}
-use Rattle.kernel_records.specs.Words.{later_parked}
+use Rattle.spec_records.specs.declared.pool.Parked.{Parked}
+use Rattle.spec_records.specs.Words.{later_parked}
 use Rattle.server_pool.specs.Words.{AllBelow, AllParkedBefore, IsOrderedBy, IsStack, ParkedBefore, pick_of}
 
 -- all items of a list, by recursion

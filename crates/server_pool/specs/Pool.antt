@@ -3,8 +3,8 @@ use Rattle.std.specs.Prelude.{ℕ, ◌+◌, ◌-◌, List, [], ◌∷◌, ◌++�
 use Rattle.dk_base.specs.declared.limits.TheConstants.{QUEUE_MAX}
 use Rattle.dk_base.specs.declared.object.Item.{Item}
 use Rattle.dk_base.specs.declared.object.Item.TheVariants.{Call, Notice}
-use Rattle.kernel_records.specs.declared.pool.Parked.{Parked}
-use Rattle.kernel_records.specs.declared.pool.Waiting.{Waiting}
+use Rattle.spec_records.specs.declared.pool.Parked.{Parked}
+use Rattle.spec_records.specs.declared.pool.Waiting.{Waiting}
 use Rattle.server_pool.specs.declared.facts.Match.{Match}
 use Rattle.server_pool.specs.Stack.{pick_of, without_thread}
 

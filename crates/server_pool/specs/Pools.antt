@@ -6,11 +6,11 @@ use Rattle.dk_base.specs.declared.error.Errno.{Errno}
 use Rattle.dk_base.specs.declared.error.Errno.TheVariants.{EBADF, EINVAL}
 use Rattle.dk_base.specs.declared.limits.TheConstants.{THREADS_MAX}
 use Rattle.dk_base.specs.declared.number.Tid.{Tid}
-use Rattle.kernel_records.specs.declared.pool.Parked.{Parked}
-use Rattle.kernel_records.specs.declared.pool.Pool.{Pool}
-use Rattle.kernel_records.specs.declared.pool.Pool.TheVariants.{Common, Private}
-use Rattle.kernel_records.specs.declared.pool.Waiting.{Waiting}
-use Rattle.kernel_records.specs.Words.{unbind_thread}
+use Rattle.spec_records.specs.declared.pool.Parked.{Parked}
+use Rattle.spec_records.specs.declared.pool.Pool.{Pool}
+use Rattle.spec_records.specs.declared.pool.Pool.TheVariants.{Common, Private}
+use Rattle.spec_records.specs.declared.pool.Waiting.{Waiting}
+use Rattle.spec_records.specs.Words.{unbind_thread}
 use Rattle.server_pool.specs.declared.facts.BindFacts.{BindFacts}
 use Rattle.server_pool.specs.Ordered.{change_at_number}
 use Rattle.server_pool.specs.Pool.{PoolValue, empty_pool, pool_size}

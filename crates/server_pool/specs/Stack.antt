@@ -2,8 +2,8 @@
 use Rattle.std.specs.Prelude.{◌≡◌, ℕ, ◌<◌, ◌⊎◌, List, Option, Bool, ◌==◌, not, None, filter}
 use Rattle.std.specs.List.{AllByRecursion, fold}
 use Rattle.dk_base.specs.declared.number.Tid.{Tid}
-use Rattle.kernel_records.specs.declared.pool.Parked.{Parked}
-use Rattle.kernel_records.specs.Words.{later_parked}
+use Rattle.spec_records.specs.declared.pool.Parked.{Parked}
+use Rattle.spec_records.specs.Words.{later_parked}
 use Rattle.server_pool.specs.Ordered.{IsOrderedBy}
 
 -- x parked at an earlier event, or at the same event with a lower number

@@ -1,12 +1,12 @@
 //! The door that each thread is bound to.
 ghost use Rattle.std.specs.Prelude.{◌≡◌, IfOk, None, replicate};
 ghost use Rattle.dk_base.specs.ByNumber.{with_at_number};
-ghost use Rattle.kernel_records.specs.Words.{bound_at};
+ghost use Rattle.spec_records.specs.Words.{bound_at};
 
 use crate::numbered::place_of;
 use dk_base::error::NoMemory;
 use dk_base::number::Tid;
-use kernel_records::numbered::numbered_item;
+use spec_records::numbered::numbered_item;
 use std::alloc::Global;
 
 /// Places for the bindings of threads, of which none is bound.

@@ -11,7 +11,7 @@ use dk_base::limits::QUEUE_MAX;
 use dk_base::list::Room;
 use dk_base::number::Tid;
 use dk_base::object::Item;
-use kernel_records::pool::{Parked, Waiting};
+use spec_records::pool::{Parked, Waiting};
 use std::alloc::Global;
 use std::collections::VecDeque;
 use std::marker::Model;

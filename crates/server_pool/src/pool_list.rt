@@ -12,10 +12,10 @@ use dk_base::error::{Errno, NoMemory};
 use dk_base::list::Room;
 use dk_base::number::Tid;
 use dk_base::object::Item;
-use kernel_records::pool::{Parked, Waiting};
+use spec_records::pool::{Parked, Waiting};
 
 /// Room for another thread and another item of a pool, if it is there.
-#[tactic(auto, using(kernel_records::proofs::Places::numbered_here))]
+#[tactic(auto, using(spec_records::proofs::Places::numbered_here))]
 pub fn room_at(pools: &mut [ServerPool], number: u32) -> Result<(), NoMemory>
     ensures same { pools.new ≡ change_at_number pools.old number (with_room (pool_or_empty (at_number pools.new number)).thread_room (pool_or_empty (at_number pools.new number)).item_room) }
     ensures threads { (pool_or_empty (at_number pools.old number)).thread_room ≤ (pool_or_empty (at_number pools.new number)).thread_room }
@@ -33,7 +33,7 @@ pub fn room_at(pools: &mut [ServerPool], number: u32) -> Result<(), NoMemory>
 }
 
 /// Room for so many more threads of a pool, if it is there.
-#[tactic(auto, using(kernel_records::proofs::Places::numbered_here))]
+#[tactic(auto, using(spec_records::proofs::Places::numbered_here))]
 pub fn room_for_threads_at(pools: &mut [ServerPool], number: u32, n: usize) -> Result<(), NoMemory>
     ensures same { pools.new ≡ change_at_number pools.old number (with_room (pool_or_empty (at_number pools.new number)).thread_room (pool_or_empty (at_number pools.new number)).item_room) }
     ensures threads { (pool_or_empty (at_number pools.old number)).thread_room ≤ (pool_or_empty (at_number pools.new number)).thread_room }
@@ -50,7 +50,7 @@ pub fn room_for_threads_at(pools: &mut [ServerPool], number: u32, n: usize) -> R
 }
 
 /// Room for so many more items of a pool, if it is there.
-#[tactic(auto, using(kernel_records::proofs::Places::numbered_here))]
+#[tactic(auto, using(spec_records::proofs::Places::numbered_here))]
 pub fn room_for_items_at(pools: &mut [ServerPool], number: u32, n: usize) -> Result<(), NoMemory>
     ensures same { pools.new ≡ change_at_number pools.old number (with_room (pool_or_empty (at_number pools.new number)).thread_room (pool_or_empty (at_number pools.new number)).item_room) }
     ensures threads { (pool_or_empty (at_number pools.old number)).thread_room ≤ (pool_or_empty (at_number pools.new number)).thread_room }
@@ -67,7 +67,7 @@ pub fn room_for_items_at(pools: &mut [ServerPool], number: u32, n: usize) -> Res
 }
 
 /// A thread parks in a pool after all the others. It takes no memory.
-#[tactic(auto, using(kernel_records::proofs::Places::numbered_here))]
+#[tactic(auto, using(spec_records::proofs::Places::numbered_here))]
 pub fn park_at(pools: &mut [ServerPool], number: u32, x: Parked)
     requires room { 0 < (pool_or_empty (at_number pools.old number)).thread_room }
     requires later { AllParkedBefore (pool_or_empty (at_number pools.old number)).parked x }
@@ -80,7 +80,7 @@ pub fn park_at(pools: &mut [ServerPool], number: u32, x: Parked)
 }
 
 /// The pick of a pool and its oldest item leave, where there are both.
-#[tactic(auto, using(kernel_records::proofs::Places::numbered_here))]
+#[tactic(auto, using(spec_records::proofs::Places::numbered_here))]
 pub fn match_at(pools: &mut [ServerPool], number: u32) -> Option<Match>
     ensures result { let pool = pool_or_empty (at_number pools.old number) in result ≡ first_match pool.parked pool.waiting }
     ensures some { OnSome result (pools.new ≡ change_at_number pools.old number match_in) }
@@ -96,7 +96,7 @@ pub fn match_at(pools: &mut [ServerPool], number: u32) -> Option<Match>
 }
 
 /// A thread leaves a pool. Says whether it was there.
-#[tactic(auto, using(kernel_records::proofs::Places::numbered_here))]
+#[tactic(auto, using(spec_records::proofs::Places::numbered_here))]
 pub fn unpark_at(pools: &mut [ServerPool], number: u32, t: Tid) -> bool
     ensures result { result ≡ list_any (is_thread t.0) (pool_or_empty (at_number pools.old number)).parked }
     ensures pools { pools.new ≡ change_at_number pools.old number (unpark_in t.0) }
@@ -111,7 +111,7 @@ pub fn unpark_at(pools: &mut [ServerPool], number: u32, t: Tid) -> bool
 }
 
 /// An item waits behind the others, where it is a notice or fewer than 32 calls wait. It takes no memory.
-#[tactic(auto, using(kernel_records::proofs::Places::numbered_here))]
+#[tactic(auto, using(spec_records::proofs::Places::numbered_here))]
 pub fn enqueue_fitting_at(pools: &mut [ServerPool], number: u32, w: Waiting)
     requires room { 0 < (pool_or_empty (at_number pools.old number)).item_room }
     requires few { is_call_too_many w (pool_or_empty (at_number pools.old number)).waiting ≡ false }
@@ -124,7 +124,7 @@ pub fn enqueue_fitting_at(pools: &mut [ServerPool], number: u32, w: Waiting)
 }
 
 /// An item waits behind the others, which takes no memory. EAGAIN for a call where 32 calls wait.
-#[tactic(auto, using(kernel_records::proofs::Places::numbered_here))]
+#[tactic(auto, using(spec_records::proofs::Places::numbered_here))]
 pub fn enqueue_at(pools: &mut [ServerPool], number: u32, w: Waiting) -> Result<(), Errno>
     requires { 0 < (pool_or_empty (at_number pools.old number)).item_room }
     ensures result { result ≡ (if is_call_too_many w (pool_or_empty (at_number pools.old number)).waiting then Err EAGAIN else Ok tt) }
@@ -141,7 +141,7 @@ pub fn enqueue_at(pools: &mut [ServerPool], number: u32, w: Waiting) -> Result<(
 }
 
 /// An item leaves a pool. Says whether it was there.
-#[tactic(auto, using(kernel_records::proofs::Places::numbered_here))]
+#[tactic(auto, using(spec_records::proofs::Places::numbered_here))]
 pub fn withdraw_at(pools: &mut [ServerPool], number: u32, item: Item) -> bool
     ensures result { result ≡ list_any (is_waiting_as item) (pool_or_empty (at_number pools.old number)).waiting }
     ensures pools { pools.new ≡ change_at_number pools.old number (withdraw_in item) }
@@ -156,7 +156,7 @@ pub fn withdraw_at(pools: &mut [ServerPool], number: u32, item: Item) -> bool
 }
 
 /// The items of a pool that wait at a door leave it, and follow what is in `into`. It takes no memory.
-#[tactic(auto, using(kernel_records::proofs::Places::numbered_here))]
+#[tactic(auto, using(spec_records::proofs::Places::numbered_here))]
 pub fn drop_items_at(pools: &mut [ServerPool], number: u32, d: u32, into: &mut Room<Item>)
     requires { items_waiting_at d (pool_or_empty (at_number pools.old number)).waiting ≤ into.old.spare }
     ensures pools { pools.new ≡ change_at_number pools.old number (drop_door_in d) }
@@ -170,7 +170,7 @@ pub fn drop_items_at(pools: &mut [ServerPool], number: u32, d: u32, into: &mut R
 }
 
 /// The threads of a pool leave it, and follow what is in `into`. It takes no memory.
-#[tactic(auto, using(kernel_records::proofs::Places::numbered_here))]
+#[tactic(auto, using(spec_records::proofs::Places::numbered_here))]
 pub fn drop_threads_at(pools: &mut [ServerPool], number: u32, into: &mut Room<Tid>)
     requires { length (pool_or_empty (at_number pools.old number)).parked ≤ into.old.spare }
     ensures pools { pools.new ≡ change_at_number pools.old number drop_threads_in }

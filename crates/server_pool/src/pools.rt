@@ -4,9 +4,9 @@ ghost use Rattle.std.specs.List.{list_any};
 ghost use Rattle.std.specs.Option.{option_copied, option_map};
 ghost use Rattle.dk_base.specs.declared.error.Errno.TheVariants.{EAGAIN, EBADF};
 ghost use Rattle.dk_base.specs.declared.limits.TheConstants.{THREADS_MAX};
-ghost use Rattle.kernel_records.specs.declared.pool.Pool.TheVariants.{Private};
-ghost use Rattle.kernel_records.specs.declared.pool.TheConstants.{LOST_DOOR};
-ghost use Rattle.kernel_records.specs.Words.{bind_lost, bind_thread, bound_at, unbind_thread};
+ghost use Rattle.spec_records.specs.declared.pool.Pool.TheVariants.{Private};
+ghost use Rattle.spec_records.specs.declared.pool.TheConstants.{LOST_DOOR};
+ghost use Rattle.spec_records.specs.Words.{bind_lost, bind_thread, bound_at, unbind_thread};
 ghost use Rattle.server_pool.specs.Words.{AllBelow, AllParkedBefore, IsAscending, IsStack, change_pool, change_spares, count_calls, drop_door_in, drop_threads_in, empty_pool, enqueue_in, first_match, is_call_too_many, is_thread, is_waiting_as, item_room_in, items_at, items_waiting_at, lowest_spare, match_in, may_bind, next_of, no_pools, park_in, pick_of, pool_at, queue_in, size_in, spares_of, stack_in, thread_of, thread_room_in, unbind_each, unpark_in, with_room, with_spare, withdraw_in, without_highest, without_lowest, without_spare};
 
 use crate::bindings::{bound_at, no_bindings, set_binding};
@@ -22,8 +22,8 @@ use dk_base::limits::THREADS_MAX;
 use dk_base::list::Room;
 use dk_base::number::{Pid, Tid};
 use dk_base::object::Item;
-use kernel_records::numbered::numbered_item;
-use kernel_records::pool::{LOST_DOOR, Parked, Pool, Waiting};
+use spec_records::numbered::numbered_item;
+use spec_records::pool::{LOST_DOOR, Parked, Pool, Waiting};
 use std::alloc::Global;
 use std::marker::Model;
 

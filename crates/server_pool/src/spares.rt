@@ -98,7 +98,7 @@ impl Spares {
 }
 
 /// Another spare of a process, above the others. Want of memory changes nothing.
-#[tactic(auto, using(kernel_records::proofs::Places::numbered_here))]
+#[tactic(auto, using(spec_records::proofs::Places::numbered_here))]
 pub fn add_spare_at(spares: &mut [Spares], number: u32, t: Tid) -> Result<(), NoMemory>
     requires { AllBelow t.0 (spares_or_none (at_number spares.old number)) }
     ensures ok { OnOk result (spares.new ≡ change_at_number spares.old number (with_spare t.0)) }
@@ -114,7 +114,7 @@ pub fn add_spare_at(spares: &mut [Spares], number: u32, t: Tid) -> Result<(), No
 }
 
 /// The lowest spare of a process leaves, where it has one.
-#[tactic(auto, using(kernel_records::proofs::Places::numbered_here))]
+#[tactic(auto, using(spec_records::proofs::Places::numbered_here))]
 pub fn take_spare_at(spares: &mut [Spares], number: u32) -> Option<Tid>
     ensures result { option_map (λ t. t.0) result ≡ lowest_spare (spares_or_none (at_number spares.old number)) }
     ensures left { spares.new ≡ change_at_number spares.old number without_lowest }
@@ -130,7 +130,7 @@ pub fn take_spare_at(spares: &mut [Spares], number: u32) -> Option<Tid>
 }
 
 /// The highest spare of a process leaves, where it has one.
-#[tactic(auto, using(kernel_records::proofs::Places::numbered_here))]
+#[tactic(auto, using(spec_records::proofs::Places::numbered_here))]
 pub fn take_back_at(spares: &mut [Spares], number: u32)
     ensures { spares.new ≡ change_at_number spares.old number without_highest }
 {
@@ -141,7 +141,7 @@ pub fn take_back_at(spares: &mut [Spares], number: u32)
 }
 
 /// A thread is no spare of a process any more, if it was one.
-#[tactic(auto, using(kernel_records::proofs::Places::numbered_here))]
+#[tactic(auto, using(spec_records::proofs::Places::numbered_here))]
 pub fn withdraw_spare_at(spares: &mut [Spares], number: u32, t: Tid)
     ensures { spares.new ≡ change_at_number spares.old number (without_spare t.0) }
 {

@@ -1,8 +1,8 @@
 -- The events of a run, one by one.
 use Rattle.std.proofs.Common.{◌≡◌, ℕ, zero, suc, ◌+◌, List, [], ◌∷◌, Some, length, slice_get, le_of_lt, refl, ap}
 use Rattle.std.proofs.lemmas.Option.{slice_get_within}
-use Rattle.written_kernel.specs.Words.{State, Turn, state_after_turn, state_at}
-use Rattle.written_kernel.proofs.Runs.{events-state_at}
+use Rattle.spec_kernel.specs.Words.{State, Turn, state_after_turn, state_at}
+use Rattle.spec_kernel.proofs.Runs.{events-state_at}
 use Rattle.spec_events.specs.Words.{event_of, events_of}
 
 pub length-events_of : (m : State) (xs : List Turn) → length (events_of m xs) ≡ length xs

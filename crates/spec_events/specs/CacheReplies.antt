@@ -1,9 +1,9 @@
 -- What the name service caches of processes reply. Each process has one of its own. A reply goes by the lines that the threads of the
 -- process asked it before, so the bytes of a reply are no part of what the kernel answers: a run has them.
 use Rattle.std.specs.Prelude.{ℕ, ◌==◌, Bool, List, [], ◌∷◌, ◌++◌, Option, Some, None, filter, map}
-use Rattle.written_kernel.specs.Types.{Event, Request}
+use Rattle.spec_kernel.specs.Types.{Event, Request}
 use Rattle.dk_base.specs.declared.request.Request.TheVariants.{Ncd}
-use Rattle.written_kernel.specs.Words.{State, Turn, process_of, state_after_turn}
+use Rattle.spec_kernel.specs.Words.{State, Turn, process_of, state_after_turn}
 use Rattle.ncd_app.specs.Words.{reply}
 use Rattle.spec_events.specs.Events.{event_of, with_output}
 

@@ -1,12 +1,12 @@
 -- The events of a run: one a turn, with the answer of the step. Where a thread's task ends, the event has the bytes that the task made,
 -- which the kernel does not know.
 use Rattle.std.specs.Prelude.{ℕ, ◌+◌, List, [], ◌∷◌, Option, Some, None}
-use Rattle.written_kernel.specs.Types.{Answer, Event, Request, ThreadState}
+use Rattle.spec_kernel.specs.Types.{Answer, Event, Request, ThreadState}
 use Rattle.dk_base.specs.declared.answer.Answer.TheVariants.{Data}
-use Rattle.kernel_records.specs.declared.record.ThreadState.TheVariants as is
-use Rattle.kernel_records.specs.Words.{tid}
+use Rattle.spec_records.specs.declared.record.ThreadState.TheVariants as is
+use Rattle.spec_records.specs.Words.{tid}
 use Rattle.work_ops.specs.Words.{output_of}
-use Rattle.written_kernel.specs.Words.{State, Turn, root, state_after_turn, state_of, step, what_of}
+use Rattle.spec_kernel.specs.Words.{State, Turn, root, state_after_turn, state_of, step, what_of}
 
 -- what a task computes, where a thread is at one
 abbrev pub output_at : ThreadState → Option (List ℕ)

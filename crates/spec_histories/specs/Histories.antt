@@ -1,7 +1,7 @@
 -- Histories of a kernel's turns, and which of them are legal.
 use Rattle.std.specs.Prelude.{ℕ, ◌≡◌, List, [], ◌∷◌, ◌++◌, Option, map}
-use Rattle.written_kernel.specs.Types.{Answer, Request, Tid, What}
-use Rattle.written_kernel.specs.Words.{IsOpening, MayTurn, StandsFor, State, Turn, now, root, state_after, state_after_turn, step, what_of}
+use Rattle.spec_kernel.specs.Types.{Answer, Request, Tid, What}
+use Rattle.spec_kernel.specs.Words.{IsOpening, MayTurn, StandsFor, State, Turn, now, root, state_after, state_after_turn, step, what_of}
 
 -- one turn, and what the kernel gave for it
 pub record Entry : Type 0 where

@@ -1,2 +1,4 @@
 pub mod Openings
 pub mod Histories
+pub mod Replies
+pub mod Rooms

@@ -1,7 +1,7 @@
 -- The state in which a history begins, by the processes and threads that it declares.
 use Rattle.std.specs.Prelude.{ℕ, ◌+◌, List, [], ◌∷◌, Option, Some, None, map}
-use Rattle.written_kernel.specs.Types.{Pid}
-use Rattle.written_kernel.specs.Words.{State, opening, with_child, with_new_thread}
+use Rattle.spec_kernel.specs.Types.{Pid}
+use Rattle.spec_kernel.specs.Words.{State, opening, with_child, with_new_thread}
 use Rattle.spec_histories.specs.declared.opening.OpeningProcess.{OpeningProcess}
 use Rattle.spec_histories.specs.declared.opening.OpeningThread.{OpeningThread}
 

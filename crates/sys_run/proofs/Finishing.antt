@@ -4,10 +4,10 @@ use Rattle.std.specs.Prelude.{nat_lt, if◌then◌else◌}
 use Rattle.std.proofs.lemmas.Bool.{ltb-false, ltb-true}
 use native.Mathlib.Numerals.{unary_clauses}
 use Rattle.std.specs.Option.{option_map_or}
-use Rattle.written_kernel.specs.Words.{State, is_runnable, least_among, least_or, least_runnable}
+use Rattle.spec_kernel.specs.Words.{State, is_runnable, least_among, least_or, least_runnable}
 use Rattle.script_lang.specs.Words.{ScriptValue}
-use Rattle.written_script.specs.Words.{History, event_at_turn, first_history, history_after, least_runnable_turns, run, run_from, threads_of_events}
-use Rattle.written_script.proofs.Histories.{threads_of_events-append}
+use Rattle.spec_scripts.specs.Words.{History, event_at_turn, first_history, history_after, least_runnable_turns, run, run_from, threads_of_events}
+use Rattle.spec_scripts.proofs.Histories.{threads_of_events-append}
 use Rattle.sys_run.specs.Sys.{SysValue, with_journal, history, state_of_run, with_turn, with_turns, turns_left, next_turn}
 use Rattle.sys_run.proofs.Journals.{history-with_turn}
 

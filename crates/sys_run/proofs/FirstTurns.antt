@@ -2,12 +2,12 @@
 use Rattle.std.proofs.Common.{◌≡◌, ◌⊎◌, ℕ, ◌+◌, ◌-◌, ◌<◌, List, [], ◌∷◌, ◌++◌, length, drop, length-append, length-drop, append-nil, Option, Some, None, true, false, inl, inr, arith, refl, ap, sym, ◌∙◌, subst, zero, suc}
 use Rattle.std.specs.Prelude.{slice_get, slice_set}
 use Rattle.ncd_app.specs.Words.{NcdValue}
-use Rattle.written_kernel.specs.Types.{Event, Tid}
-use Rattle.written_kernel.specs.Words.{State, is_runnable, state_of}
+use Rattle.spec_kernel.specs.Types.{Event, Tid}
+use Rattle.spec_kernel.specs.Words.{State, is_runnable, state_of}
 use Rattle.spec_events.specs.Words.{output_at}
 use Rattle.script_lang.specs.Words.{ScriptValue}
 use Rattle.thread_machine.specs.declared.machine.Machine.{Machine}
-use Rattle.written_script.specs.Words.{scheduled_turns}
+use Rattle.spec_scripts.specs.Words.{scheduled_turns}
 use Rattle.sys_run.specs.declared.turn.Turned.{Turned}
 use Rattle.sys_run.specs.Schedules.{HasPlayed, IsBefore, IsPlay, refusal_at}
 use Rattle.sys_run.specs.Sys.{IsJournal, IsSys, MachineStands, SysValue, next_turn, scheduled_turn, state_of_run, turns_left, with_journal, with_turn, with_turns}

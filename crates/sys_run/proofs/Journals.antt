@@ -2,13 +2,13 @@
 use Rattle.std.proofs.Common.{◌≡◌, ℕ, ◌+◌, ◌≤◌, ◌<◌, List, [], ◌∷◌, ◌++◌, length, Option, Some, None, true, arith, refl, ap, ◌∙◌, length-append, zero-add}
 use Rattle.std.specs.Prelude.{nat_le, nat_lt, not}
 use Rattle.std.proofs.lemmas.Bool.Decides.{nat_tests}
-use Rattle.written_kernel.specs.Words.{MayTurn, StandsFor, State, is_runnable, process_of}
+use Rattle.spec_kernel.specs.Words.{MayTurn, StandsFor, State, is_runnable, process_of}
 use Rattle.spec_events.specs.Words.{AskedLine, asked_with}
 use Rattle.script_lang.specs.Words.{ScriptValue}
-use Rattle.written_script.specs.Words.{History, IsAllowed, IsDeclared, event_at_turn, first_history, history_after, line_at_turn, request_at_turn, run, run_from, threads_of_events}
-use Rattle.written_script.proofs.Histories.{run-append, AreRunnableFrom-append, threads_of_events-append, length-threads_of_events, events-run}
-use Rattle.written_script.proofs.RunTurns.{IsKnownHistory, run-known, declared-known, may_turn, process_of-run}
-use Rattle.script_requests.specs.Words.{IsThread}
+use Rattle.spec_scripts.specs.Words.{History, IsAllowed, IsDeclared, event_at_turn, first_history, history_after, line_at_turn, request_at_turn, run, run_from, threads_of_events}
+use Rattle.spec_scripts.proofs.Histories.{run-append, AreRunnableFrom-append, threads_of_events-append, length-threads_of_events, events-run}
+use Rattle.spec_scripts.proofs.RunTurns.{IsKnownHistory, run-known, declared-known, may_turn, process_of-run}
+use Rattle.spec_requests.specs.Words.{IsThread}
 use Rattle.sys_run.specs.Sys.{SysValue, asked_in, history, state_of_run, IsJournal, with_turn}
 use Rattle.sys_run.specs.TurnRequests.{IsDeclaredIn}
 

@@ -1,15 +1,15 @@
 -- What the kernel's threads say of the run.
 use Rattle.std.proofs.Common.{◌≡◌, ℕ, List, [], ◌∷◌, length, Option, Some, None, Bool, true, false, refl, ap, sym, ◌∙◌, subst}
 use Rattle.std.specs.Prelude.{nat_lt, nat_le, is_none, option_map, not, All, slice_get, ◌||◌, if◌then◌else◌}
-use Rattle.written_kernel.specs.Types.{Event, Tid}
-use Rattle.written_kernel.specs.Words.{IsOpening, IsRun, StandsFor, State, Turn, least_runnable, waiting_threads}
-use Rattle.script_requests.specs.declared.ending.Ending.TheVariants.{Complete, Stalled, Budget}
-use Rattle.script_requests.specs.Words.{IsDeclaredEvent, IsDeclaredThread}
-use Rattle.script_requests.proofs.Elements.{All-slice_get}
-use Rattle.written_script.specs.Words.{ending_of, ending_waiting, ending_with, is_over, opening_of, threads_of_events, tid_number, turns_of}
-use Rattle.written_script.proofs.Histories.{IsOpening-opening_of}
-use Rattle.written_script.proofs.RunTurns.{turns_of-run}
-use Rattle.kernel_laws.specs.Words.{Laws}
+use Rattle.spec_kernel.specs.Types.{Event, Tid}
+use Rattle.spec_kernel.specs.Words.{IsOpening, IsRun, StandsFor, State, Turn, least_runnable, waiting_threads}
+use Rattle.spec_requests.specs.declared.ending.Ending.TheVariants.{Complete, Stalled, Budget}
+use Rattle.spec_requests.specs.Words.{IsDeclaredEvent, IsDeclaredThread}
+use Rattle.spec_requests.proofs.Elements.{All-slice_get}
+use Rattle.spec_scripts.specs.Words.{ending_of, ending_waiting, ending_with, is_over, opening_of, threads_of_events, tid_number, turns_of}
+use Rattle.spec_scripts.proofs.Histories.{IsOpening-opening_of}
+use Rattle.spec_scripts.proofs.RunTurns.{turns_of-run}
+use Rattle.law_runs.specs.Words.{Laws}
 use Rattle.sys_run.specs.Sys.{SysValue, history, state_of_run, next_turn, scheduled_turn, LawsOf, IsJournal}
 use Rattle.sys_run.specs.Threads.{is_any}
 use Rattle.sys_run.proofs.Journals.{length-history, le-not_lt, declared-history}

@@ -2,13 +2,13 @@
 use Rattle.std.proofs.Common.{◌≡◌, ℕ, ◌+◌, ◌<◌, List, [], ◌∷◌, ◌++◌, length, Some, true, false, arith, refl, sym, subst, ◌∙◌, zero, suc, ◌⊎◌, inl, inr, eq-eqb}
 use Rattle.std.specs.Prelude.{slice_get, slice_set, ◌==◌}
 use Rattle.std.proofs.lemmas.Bool.Decides.{nat_tests}
-use Rattle.written_kernel.specs.Types.{Answer, Event}
+use Rattle.spec_kernel.specs.Types.{Answer, Event}
 use Rattle.dk_base.specs.declared.answer.Answer.TheVariants as answer
 use Rattle.script_lang.specs.Words.{ScriptValue}
 use Rattle.thread_machine.specs.declared.machine.Machine.{Machine}
 use Rattle.thread_machine.specs.Words.{HasDeclaredEntry, IsMachine, Stands}
-use Rattle.script_requests.specs.Words.{IsDeclaredAnswer, first_frame, frame_after_answer, frame_of}
-use Rattle.written_script.proofs.Histories.{frame_of-append}
+use Rattle.spec_requests.specs.Words.{IsDeclaredAnswer, first_frame, frame_after_answer, frame_of}
+use Rattle.spec_scripts.proofs.Histories.{frame_of-append}
 use Rattle.sys_run.specs.Sys.{MachineStands, AllStandFrom}
 
 -- one machine more

@@ -7,20 +7,20 @@ use Rattle.std.proofs.lemmas.Bool.{false≢true}
 use Rattle.std.proofs.lemmas.List.Elements.{All-head, All-tail}
 use Rattle.dk_base.specs.declared.limits.TheConstants.{DESCRIPTORS_MAX}
 use Rattle.std.specs.Result.{is_err}
-use Rattle.written_kernel.specs.Types.{Pid}
+use Rattle.spec_kernel.specs.Types.{Pid}
 use Rattle.std.proofs.lemmas.List.{length-map, length-replicate}
-use Rattle.kernel_records.specs.Words.{empty_table, table_in}
-use Rattle.written_kernel.specs.Opening.{is_thread_of, no_process, with_new_process, with_processes}
-use Rattle.written_kernel.specs.Words.{State, opening, table_of, with_child, with_new_thread}
-use Rattle.written_kernel.proofs.Opening.{IsDeclaredIn, length-with_child, opening_events, opening_processes, opening_threads, threads-make_child}
-use Rattle.kernel_records.proofs.Lists.{at_number-map, at_number-suc, numbered_there}
+use Rattle.spec_records.specs.Words.{empty_table, table_in}
+use Rattle.spec_kernel.specs.Opening.{is_thread_of, no_process, with_new_process, with_processes}
+use Rattle.spec_kernel.specs.Words.{State, opening, table_of, with_child, with_new_thread}
+use Rattle.spec_kernel.proofs.Opening.{IsDeclaredIn, length-with_child, opening_events, opening_processes, opening_threads, threads-make_child}
+use Rattle.spec_records.proofs.Lists.{at_number-map, at_number-suc, numbered_there}
 use Rattle.dk_base.specs.ByNumber.{at_number}
 use Rattle.script_lang.specs.Scripts.{limit_of_process}
 use Rattle.script_lang.specs.Words.{ScriptValue}
-use Rattle.script_requests.specs.Types.{ScriptProcess, ScriptThread}
-use Rattle.script_requests.specs.Words.{IsNarrow, IsProcess, IsSound, IsSoundChild, IsSoundThread}
-use Rattle.script_requests.proofs.Elements.{All-at_number, at_number-within}
-use Rattle.written_script.specs.Words.{limit_of, with_children, with_parent, with_script_threads}
+use Rattle.spec_requests.specs.Types.{ScriptProcess, ScriptThread}
+use Rattle.spec_requests.specs.Words.{IsNarrow, IsProcess, IsSound, IsSoundChild, IsSoundThread}
+use Rattle.spec_requests.proofs.Elements.{All-at_number, at_number-within}
+use Rattle.spec_scripts.specs.Words.{limit_of, with_children, with_parent, with_script_threads}
 
 at_number-at : {X Y : Type 0} (f : X → Y) (xs : List X) (k : ℕ) (y : Y) → option_map f (at_number xs (k + 1)) ≡ Some y → option_map f (slice_get xs k) ≡ Some y
 at_number-at f xs k y e =

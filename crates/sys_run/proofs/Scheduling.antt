@@ -3,12 +3,12 @@ use Rattle.std.proofs.Common.{◌≡◌, ℕ, ◌+◌, ◌-◌, ◌≤◌, ◌<�
 use Rattle.std.specs.Prelude.{nat_lt, slice_get, if◌then◌else◌}
 use Rattle.std.proofs.lemmas.Bool.{ltb-false, ltb-true}
 use Rattle.std.proofs.lemmas.Option.{slice_get-map}
-use Rattle.written_kernel.specs.Types.{Tid}
-use Rattle.written_kernel.specs.Words.{is_runnable}
+use Rattle.spec_kernel.specs.Types.{Tid}
+use Rattle.spec_kernel.specs.Words.{is_runnable}
 use Rattle.script_lang.specs.Words.{ScriptValue}
-use Rattle.script_requests.specs.Words.{IsDeclaredThread, IsThread}
-use Rattle.script_requests.proofs.Elements.{All-slice_get}
-use Rattle.written_script.specs.Words.{History, first_history, history_after, refusal, refusal_from, scheduled_turns, tid_number}
+use Rattle.spec_requests.specs.Words.{IsDeclaredThread, IsThread}
+use Rattle.spec_requests.proofs.Elements.{All-slice_get}
+use Rattle.spec_scripts.specs.Words.{History, first_history, history_after, refusal, refusal_from, scheduled_turns, tid_number}
 use Rattle.sys_run.specs.Schedules.{refusal_at, HasPlayed, IsRefused}
 use Rattle.sys_run.specs.Sys.{SysValue, with_journal, history, state_of_run, with_turn, with_turns, scheduled_turn, IsJournal}
 use Rattle.sys_run.proofs.Finishing.{with_turns-append, script-with_turns, history-new, take_more-at, take-all}

@@ -3,15 +3,15 @@ use Rattle.std.proofs.Common.{◌≡◌, ℕ, ◌+◌, ◌-◌, ◌≤◌, ◌<�
 use Rattle.std.specs.Prelude.{slice_get, slice_set}
 use Rattle.std.proofs.Math.ListN.{length-set}
 use Rattle.ncd_app.specs.Words.{NcdValue}
-use Rattle.written_kernel.specs.Types.{Event}
+use Rattle.spec_kernel.specs.Types.{Event}
 use Rattle.script_lang.specs.Words.{ScriptValue}
 use Rattle.thread_machine.specs.declared.machine.Machine.{Machine}
-use Rattle.written_kernel.specs.Words.{StandsFor, State, is_runnable, waiting_threads}
-use Rattle.written_kernel.proofs.Opening.{forget-opening}
-use Rattle.script_requests.specs.Words.{IsSound, IsThread}
-use Rattle.written_script.specs.Words.{History, opening_of}
-use Rattle.written_script.proofs.Histories.{IsOpening-opening_of}
-use Rattle.written_script.proofs.RunTurns.{history_after-thread}
+use Rattle.spec_kernel.specs.Words.{StandsFor, State, is_runnable, waiting_threads}
+use Rattle.spec_kernel.proofs.Opening.{forget-opening}
+use Rattle.spec_requests.specs.Words.{IsSound, IsThread}
+use Rattle.spec_scripts.specs.Words.{History, opening_of}
+use Rattle.spec_scripts.proofs.Histories.{IsOpening-opening_of}
+use Rattle.spec_scripts.proofs.RunTurns.{history_after-thread}
 use Rattle.sys_run.specs.NameTables.{AllTablesStandFrom, HasTables}
 use Rattle.sys_run.specs.Sys.{SysValue, asked_in, with_journal, history, state_of_run, with_turn, MachineStands, AllStandFrom, IsJournal, IsSys}
 use Rattle.sys_run.proofs.Journals.{known-history, IsJournal-with_turn}

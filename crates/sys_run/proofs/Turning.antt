@@ -1,7 +1,7 @@
 -- What may be entered, and whose wait may end, in a kernel that stands for a state.
 use Rattle.std.proofs.Common.{ℕ, ◌∙◌, None, sym, subst}
-use Rattle.written_kernel.specs.Words.{MayGoOn, MayTurn, StandsFor, State, forget}
-use Rattle.written_kernel.proofs.Forget.{is_runnable-forget}
+use Rattle.spec_kernel.specs.Words.{MayGoOn, MayTurn, StandsFor, State, forget}
+use Rattle.spec_kernel.proofs.Forget.{is_runnable-forget}
 
 MayGoOn-forget : (m : State) (t : ℕ) → MayGoOn m t → MayGoOn (forget m) t
 MayGoOn-forget m t h = record { runnable = is_runnable-forget m t ∙ h.runnable; waits = h.waits; few = h.few }

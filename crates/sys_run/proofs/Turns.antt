@@ -1,18 +1,18 @@
 -- What a turn leaves after, from the clauses of the calls that it makes.
 use Rattle.std.proofs.Common.{◌≡◌, ℕ, ◌+◌, ◌<◌, ◌≤◌, List, length, Option, Some, None, true, arith, refl, sym, subst, ap, ◌∙◌}
-use Rattle.written_kernel.specs.Types.{Answer, Event, Pid, Request, Tid, What}
+use Rattle.spec_kernel.specs.Types.{Answer, Event, Pid, Request, Tid, What}
 use Rattle.thread_machine.specs.declared.machine.Machine.{Machine}
 use Rattle.thread_machine.specs.Words.{HasDeclaredEntry, Stands}
-use Rattle.kernel_records.specs.Words.{tid}
-use Rattle.written_kernel.specs.Words.{MayTurn, StandsFor, State, is_runnable, process_of, root, state_of, step, what_of}
+use Rattle.spec_records.specs.Words.{tid}
+use Rattle.spec_kernel.specs.Words.{MayTurn, StandsFor, State, is_runnable, process_of, root, state_of, step, what_of}
 use Rattle.spec_events.specs.Words.{output_at, shown_answer, with_output, asked_with, line_in, reply_after}
 use Rattle.script_lang.specs.Words.{ScriptValue}
 use Rattle.ncd_app.specs.Words.{NcdValue}
 use Rattle.std.specs.Option.{option_map}
-use Rattle.script_requests.specs.Types.{ScriptThread}
-use Rattle.script_requests.specs.Words.{IsProcess, IsThread, frame_of}
-use Rattle.written_script.specs.Words.{event_at_turn, reply_at_turn, request_at_turn}
-use Rattle.written_script.proofs.RunTurns.{history_after-answer, history_after-thread}
+use Rattle.spec_requests.specs.Types.{ScriptThread}
+use Rattle.spec_requests.specs.Words.{IsProcess, IsThread, frame_of}
+use Rattle.spec_scripts.specs.Words.{event_at_turn, reply_at_turn, request_at_turn}
+use Rattle.spec_scripts.proofs.RunTurns.{history_after-answer, history_after-thread}
 use Rattle.sys_run.specs.NameTables.{HasTables}
 use Rattle.sys_run.specs.Sys.{SysValue, asked_in, history, state_of_run, with_turn, IsJournal}
 use Rattle.sys_run.specs.TurnRequests.{HasReplied, IsDeclaredIn, MayReply, MayTake, process_number, request_if_running}

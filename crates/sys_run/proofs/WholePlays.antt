@@ -1,8 +1,8 @@
 -- What the turns of a schedule make, and those after them.
 use Rattle.std.proofs.Common.{◌≡◌, ℕ, ◌-◌, List, [], ◌++◌, length, refl, ap, ap₂, sym, ◌∙◌}
 use Rattle.script_lang.specs.Words.{ScriptValue}
-use Rattle.written_script.specs.Words.{History, Refusal, least_runnable_turns, refusal, run, run_from, scheduled_turns, threads_of_events, turns_before, turns_of_play}
-use Rattle.written_script.proofs.Histories.{length-threads_of_events}
+use Rattle.spec_scripts.specs.Words.{History, Refusal, least_runnable_turns, refusal, run, run_from, scheduled_turns, threads_of_events, turns_before, turns_of_play}
+use Rattle.spec_scripts.proofs.Histories.{length-threads_of_events}
 use Rattle.sys_run.specs.Schedules.{HasPlayed, IsRefused, IsPlay, IsBefore}
 use Rattle.sys_run.specs.Sys.{SysValue, with_journal, history, with_turns, turns_left}
 use Rattle.sys_run.proofs.Finishing.{history-with_turns, script-with_turns, history-from_new, run-then, threads-with_turns}

@@ -1,7 +1,7 @@
 -- The run that `play` makes, by the number of its turns.
 use Rattle.std.specs.Prelude.{ℕ, [], ◌∷◌, List, Option, None, Some, if◌then◌else◌, zero, suc}
-use Rattle.written_kernel.specs.Types.{Event, Tid}
-use Rattle.written_kernel.specs.Words.{is_runnable}
+use Rattle.spec_kernel.specs.Types.{Event, Tid}
+use Rattle.spec_kernel.specs.Words.{is_runnable}
 use Rattle.script_lang.specs.Words.{ScriptValue}
 use Rattle.sys_run.specs.declared.sys.Played.{Played}
 use Rattle.sys_run.specs.declared.sys.Played.TheVariants.{Over, Refused}

@@ -1,8 +1,8 @@
 -- What playing a schedule answers and leaves.
 use Rattle.std.specs.Prelude.{ℕ, ◌≡◌, Some, None}
 use Rattle.script_lang.specs.Words.{ScriptValue}
-use Rattle.script_requests.specs.Words.{IsThread}
-use Rattle.written_script.specs.Words.{Refusal, refusal, run, scheduled_turns, threads_of_events, turns_before, turns_of_play}
+use Rattle.spec_requests.specs.Words.{IsThread}
+use Rattle.spec_scripts.specs.Words.{Refusal, refusal, run, scheduled_turns, threads_of_events, turns_before, turns_of_play}
 use Rattle.sys_run.specs.declared.sys.Played.{Played}
 use Rattle.sys_run.specs.declared.sys.Played.TheVariants.{Over, Refused}
 use Rattle.sys_run.specs.Sys.{SysValue, history, with_turns}

@@ -1,15 +1,15 @@
 -- A script with the journal of its events so far.
 use Rattle.std.specs.Prelude.{ℕ, ◌≡◌, ◌-◌, ◌∷◌, ◌++◌, [], List, Option, None, Bool, if◌then◌else◌, is_some, nat_lt, slice_get, suc, length}
-use Rattle.written_kernel.specs.Types.{Event, Tid}
-use Rattle.written_kernel.specs.Words.{StandsFor, State, least_runnable, state_of, step}
+use Rattle.spec_kernel.specs.Types.{Event, Tid}
+use Rattle.spec_kernel.specs.Words.{StandsFor, State, least_runnable, state_of, step}
 use Rattle.spec_events.specs.Words.{output_at, AskedLine}
-use Rattle.kernel_records.specs.declared.record.ThreadState.TheVariants as is
+use Rattle.spec_records.specs.declared.record.ThreadState.TheVariants as is
 use Rattle.ncd_app.specs.Words.{NcdValue}
 use Rattle.work_ops.specs.Words.{TaskValue}
-use Rattle.kernel_laws.specs.Words.{Laws}
+use Rattle.law_runs.specs.Words.{Laws}
 use Rattle.script_lang.specs.Words.{ScriptValue}
-use Rattle.script_requests.specs.Words.{IsSound, frame_of}
-use Rattle.written_script.specs.Words.{History, IsAllowed, event_at_turn, least_runnable_turns, opening_of, request_at_turn, run, threads_of_events, turns_of}
+use Rattle.spec_requests.specs.Words.{IsSound, frame_of}
+use Rattle.spec_scripts.specs.Words.{History, IsAllowed, event_at_turn, least_runnable_turns, opening_of, request_at_turn, run, threads_of_events, turns_of}
 use Rattle.thread_machine.specs.declared.machine.Machine.{Machine}
 use Rattle.thread_machine.specs.Words.{IsMachine, Stands}
 use Rattle.sys_run.specs.NameTables.{HasTables}

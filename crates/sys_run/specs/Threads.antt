@@ -1,6 +1,6 @@
 -- Whether a list has some thread.
 use Rattle.std.specs.Prelude.{Bool, true, false, List, [], ◌∷◌}
-use Rattle.written_kernel.specs.Types.{Tid}
+use Rattle.spec_kernel.specs.Types.{Tid}
 
 abbrev pub is_any : List Tid → Bool
 is_any [] = false

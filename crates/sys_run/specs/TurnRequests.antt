@@ -3,12 +3,12 @@ use Rattle.std.specs.Prelude.{ℕ, ◌≡◌, ◌<◌, ◌≤◌, List, Option, 
 use Rattle.dk_base.specs.ByNumber.{at_number}
 use Rattle.std.specs.Option.{option_map}
 use Rattle.ncd_app.specs.Words.{NcdValue}
-use Rattle.written_kernel.specs.Types.{Request}
-use Rattle.written_kernel.specs.Words.{MayTurn, StandsFor, State, is_running}
+use Rattle.spec_kernel.specs.Types.{Request}
+use Rattle.spec_kernel.specs.Words.{MayTurn, StandsFor, State, is_running}
 use Rattle.spec_events.specs.Words.{AskedLine, asked_with, line_in, reply_after}
 use Rattle.script_lang.specs.Words.{ScriptValue}
-use Rattle.script_requests.specs.Types.{ScriptThread}
-use Rattle.script_requests.specs.Words.{Frame, IsThread, request_of}
+use Rattle.spec_requests.specs.Types.{ScriptThread}
+use Rattle.spec_requests.specs.Words.{Frame, IsThread, request_of}
 use Rattle.sys_run.specs.NameTables.{AllTablesStandFrom, HasTables}
 use Rattle.thread_machine.specs.declared.machine.Machine.{Machine}
 use Rattle.thread_machine.specs.Words.{Stands}

@@ -1,7 +1,7 @@
 -- One turn of a thread after the events so far.
 use Rattle.std.specs.Prelude.{ℕ, ◌≡◌, ◌<◌, ◌∷◌, ◌++◌, [], List, Option, length, true}
-use Rattle.written_kernel.specs.Types.{Event}
-use Rattle.written_kernel.specs.Words.{StandsFor, State, is_runnable, state_of}
+use Rattle.spec_kernel.specs.Types.{Event}
+use Rattle.spec_kernel.specs.Words.{StandsFor, State, is_runnable, state_of}
 use Rattle.spec_events.specs.Words.{output_at}
 use Rattle.script_lang.specs.Words.{ScriptValue}
 use Rattle.thread_machine.specs.declared.machine.Machine.{Machine}

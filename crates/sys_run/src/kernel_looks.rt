@@ -1,15 +1,15 @@
 //! What a kernel tells of a run after which it stands.
 ghost use Rattle.std.specs.Prelude.{◌≡◌, List, nat_lt, option_map, slice_get};
-ghost use Rattle.written_kernel.specs.Types.{Event as EventValue};
-ghost use Rattle.written_kernel.specs.Words.{StandsFor, State};
-ghost use Rattle.written_script.specs.Words.{ending_of as ending_of_state, tid_number};
+ghost use Rattle.spec_kernel.specs.Types.{Event as EventValue};
+ghost use Rattle.spec_kernel.specs.Words.{StandsFor, State};
+ghost use Rattle.spec_scripts.specs.Words.{ending_of as ending_of_state, tid_number};
 ghost use Rattle.sys_run.specs.Sys.{next_turn, scheduled_turn, state_of_run, with_journal};
 
 use crate::threads::is_any_waiting;
 use dk_base::number::Tid;
 use kernel_core::kernel::Kernel;
 use script_lang::script::Script;
-use script_requests::ending::Ending;
+use spec_requests::ending::Ending;
 
 /// Whether another event may be made.
 fn has_budget(script: &Script, kernel: &Kernel) -> bool

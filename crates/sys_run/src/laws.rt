@@ -3,7 +3,7 @@
 
 ghost use Rattle.std.specs.Prelude.{◌≡◌, []};
 ghost use Rattle.script_lang.specs.Words.{ScriptValue};
-ghost use Rattle.written_script.specs.Words.{Refusal};
+ghost use Rattle.spec_scripts.specs.Words.{Refusal};
 ghost use Rattle.sys_run.specs.Schedules.{HasPlayed, IsRefused, IsPlay, IsBefore};
 ghost use Rattle.sys_run.specs.Sys.{SysValue, with_journal, with_turns, turns_left};
 

@@ -1,9 +1,9 @@
 //! What a script opens with.
 ghost use Rattle.std.specs.Prelude.{◌≡◌, ◌≤◌, [], length, map, IfOk, OnOk};
 ghost use Rattle.dk_base.specs.declared.limits.TheConstants.{PROCESSES_MAX, THREADS_MAX};
-ghost use Rattle.script_requests.specs.Words.{IsSound};
-ghost use Rattle.written_kernel.specs.Words.{opening};
-ghost use Rattle.written_script.specs.Words.{limit_of, opening_of, with_children, with_script_threads};
+ghost use Rattle.spec_requests.specs.Words.{IsSound};
+ghost use Rattle.spec_kernel.specs.Words.{opening};
+ghost use Rattle.spec_scripts.specs.Words.{limit_of, opening_of, with_children, with_script_threads};
 ghost use Rattle.sys_run.specs.Sys.{AllStandFrom};
 
 use dk_base::error::NoMemory;

@@ -1,9 +1,9 @@
 //! A run whose events are told one after another, and not kept.
 ghost use Rattle.std.specs.Prelude.{◌≡◌, ◌≤◌, ◌++◌, ◌∷◌, [], Some, length, IfErr, IfOk, OnErr, OnOk};
 ghost use Rattle.dk_base.specs.declared.limits.TheConstants.{BUDGET_MAX};
-ghost use Rattle.written_kernel.specs.Words.{waiting_threads};
+ghost use Rattle.spec_kernel.specs.Words.{waiting_threads};
 ghost use Rattle.spec_events.specs.Words.{output_at};
-ghost use Rattle.written_script.specs.Words.{ending_of as ending_of_state};
+ghost use Rattle.spec_scripts.specs.Words.{ending_of as ending_of_state};
 ghost use Rattle.sys_run.specs.Playing.{EndsIfTold, EndsPlay, told_events, turn_of_play};
 ghost use Rattle.sys_run.specs.Sys.{LawsOf, history, state_of_run, with_journal};
 
@@ -18,9 +18,9 @@ use dk_base::event::Event;
 use dk_base::list::{Bytes, TidList};
 use dk_base::number::Tid;
 use kernel_core::kernel::Kernel;
-use kernel_records::record::ThreadState;
 use script_lang::script::Script;
-use script_requests::ending::Ending;
+use spec_records::record::ThreadState;
+use spec_requests::ending::Ending;
 use std::alloc::Global;
 use std::marker::Model;
 use thread_machine::machine::Machine;
@@ -87,7 +87,7 @@ impl Playing {
         ensures { IfOk result (λ playing. playing ≡ with_journal script []) }
     {
         script.is_spelled();
-        script_requests::laws::sound_scripts();
+        spec_requests::laws::sound_scripts();
         let kernel = open(alloc, &script)?;
         let machines = first_machines(alloc, &script)?;
         let tables = NameTables::new(alloc, script.processes())?;
@@ -145,7 +145,7 @@ impl Playing {
         ensures laws { LawsOf self.now }
     {
         let _machines = &self.machines;
-        kernel_laws::laws::every_run();
+        law_runs::laws::every_run();
     }
 
     /// The next turn of `play`, and its event; or how the run ended. Want of memory leaves all as it was.

@@ -1,10 +1,10 @@
 //! A run of a script: its kernel, where its threads stand, its name tables, and the journal of its events, one turn at a time.
 ghost use Rattle.std.specs.Prelude.{◌≡◌, ◌↔◌, IsTrue, ℕ, ◌+◌, ◌<◌, ◌≤◌, [], length, slice_get, Some, IfOk, option_map, OnOk, OnErr, take, true, false, All};
 ghost use Rattle.dk_base.specs.declared.limits.TheConstants.{BUDGET_MAX};
-ghost use Rattle.written_kernel.specs.Words.{is_runnable, state_of, waiting_threads};
+ghost use Rattle.spec_kernel.specs.Words.{is_runnable, state_of, waiting_threads};
 ghost use Rattle.spec_events.specs.Words.{output_at};
-ghost use Rattle.script_requests.specs.Words.{IsDeclaredEvent, IsDeclaredThread, request_after};
-ghost use Rattle.written_script.specs.Words.{ending_of, is_over, scheduled_turns, tid_number};
+ghost use Rattle.spec_requests.specs.Words.{IsDeclaredEvent, IsDeclaredThread, request_after};
+ghost use Rattle.spec_scripts.specs.Words.{ending_of, is_over, scheduled_turns, tid_number};
 ghost use Rattle.sys_run.specs.Sys.{with_journal, history, state_of_run, with_turn, with_turns, turns_left, next_turn, scheduled_turn, threads_woken_by, LawsOf, IsJournal, WorksOn, is_working};
 
 use crate::kernel_looks::{ending_of, next_scheduled, next_thread};
@@ -18,9 +18,9 @@ use dk_base::list::{Bytes, TidList};
 use dk_base::number::Tid;
 use dk_base::request::Request;
 use kernel_core::kernel::Kernel;
-use kernel_records::record::ThreadState;
 use script_lang::script::Script;
-use script_requests::ending::Ending;
+use spec_records::record::ThreadState;
+use spec_requests::ending::Ending;
 use std::alloc::Global;
 use std::marker::Model;
 use thread_machine::machine::Machine;
@@ -78,7 +78,7 @@ impl Sys {
         ensures { IfOk result (λ sys. sys ≡ with_journal script []) }
     {
         script.is_spelled();
-        script_requests::laws::sound_scripts();
+        spec_requests::laws::sound_scripts();
         let kernel = open(alloc, &script)?;
         let machines = first_machines(alloc, &script)?;
         let tables = NameTables::new(alloc, script.processes())?;
@@ -181,7 +181,7 @@ impl Sys {
             t,
             output,
         )?;
-        kernel_laws::laws::every_run();
+        law_runs::laws::every_run();
         Ok(woken)
     }
 
@@ -235,7 +235,7 @@ impl Sys {
         ensures small { self.now.script.budget ≤ BUDGET_MAX }
     {
         let _journal = &self.journal;
-        kernel_laws::laws::every_run();
+        law_runs::laws::every_run();
     }
 
     // The thread that `finish` lets take the next turn.
@@ -306,7 +306,7 @@ impl Sys {
         ensures declared { All (IsDeclaredEvent self.now.script) result.now }
         ensures laws { LawsOf self.now }
     {
-        kernel_laws::laws::every_run();
+        law_runs::laws::every_run();
         self.journal.as_slice()
     }
 

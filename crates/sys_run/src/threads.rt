@@ -1,13 +1,13 @@
 //! What the threads of a kernel are at, all together.
 ghost use Rattle.std.specs.Prelude.{◌≡◌, IfOk};
-ghost use Rattle.written_kernel.specs.Words.{is_waiting_state, waiting_threads};
+ghost use Rattle.spec_kernel.specs.Words.{is_waiting_state, waiting_threads};
 ghost use Rattle.sys_run.specs.Threads.{is_any};
 
 use dk_base::error::NoMemory;
 use dk_base::list::TidList;
 use dk_base::number::Tid;
 use kernel_core::kernel::Kernel;
-use kernel_records::record::ThreadState;
+use spec_records::record::ThreadState;
 use std::alloc::Global;
 
 fn is_waiting(state: &ThreadState) -> bool

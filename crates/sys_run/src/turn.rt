@@ -1,9 +1,9 @@
 //! One turn of a thread: its request or the end of its wait, the kernel's step, and the event.
 ghost use Rattle.std.specs.Prelude.{◌≡◌, ◌<◌, List, Some, true, IfOk, OnOk, OnErr, vec_len, vec_capacity};
-ghost use Rattle.written_kernel.specs.Types.{Event as EventValue};
-ghost use Rattle.written_kernel.specs.Words.{IsStep, StandsFor, State, is_running, step, what_of, what_of_entry};
+ghost use Rattle.spec_kernel.specs.Types.{Event as EventValue};
+ghost use Rattle.spec_kernel.specs.Words.{IsStep, StandsFor, State, is_running, step, what_of, what_of_entry};
 ghost use Rattle.spec_events.specs.Words.{with_output};
-ghost use Rattle.script_requests.specs.Words.{Frame, request_of};
+ghost use Rattle.spec_requests.specs.Words.{Frame, request_of};
 ghost use Rattle.thread_machine.specs.Words.{HasRoomForAnswer, IsMachine, Stands};
 ghost use Rattle.sys_run.specs.NameTables.{HasTables};
 ghost use Rattle.sys_run.specs.Sys.{asked_in, with_journal, state_of_run, with_turn, threads_woken_by, MachineStands};
@@ -11,7 +11,6 @@ ghost use Rattle.sys_run.specs.TurnRequests.{HasReplied, MayReply, MayTake, Repl
 ghost use Rattle.sys_run.specs.Turns.{CanTurn, HasTurned};
 
 use crate::name_tables::NameTables;
-use answering_kernel::what;
 use dk_base::answer::Answer;
 use dk_base::error::NoMemory;
 use dk_base::event::{Event, Stepped, What};
@@ -19,6 +18,7 @@ use dk_base::list::{Bytes, TidList};
 use dk_base::number::Tid;
 use kernel_core::kernel::Kernel;
 use script_lang::script::Script;
+use spec_kernel::what;
 use std::alloc::Global;
 use thread_machine::machine::Machine;
 

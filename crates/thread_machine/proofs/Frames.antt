@@ -1,15 +1,15 @@
 -- A machine stands where its frame does.
 use Rattle.std.proofs.Common.{◌≡◌, ℕ, ◌+◌, ◌<◌, Bool, true, false, List, [], ◌∷◌, length, drop, Some, None, refl, ap, ◌∙◌, sym, subst, arith}
 use Rattle.std.specs.Prelude.{slice_get}
-use Rattle.script_text.specs.Types.{Answer}
+use Rattle.line_text.specs.Types.{Answer}
 use Rattle.dk_base.specs.declared.answer.Answer.TheVariants as answer
 use Rattle.script_lang.specs.Types.{Cond, Line}
-use Rattle.script_line.specs.declared.line.Cond.TheVariants as cond
-use Rattle.script_line.specs.declared.line.Kind.TheVariants.{Act}
-use Rattle.script_line.specs.Words.{kind_of}
+use Rattle.line_forms.specs.declared.line.Cond.TheVariants as cond
+use Rattle.line_forms.specs.declared.line.Kind.TheVariants.{Act}
+use Rattle.line_forms.specs.Words.{kind_of}
 use Rattle.script_lang.specs.Words.{ScriptValue}
-use Rattle.script_requests.specs.Words.{BodyStep, Frame, Variables, arguments, empty_value, frame_after_answer, frame_after_command, is_met, next_steps, procedure_body, request_ahead, request_at, request_at_end, request_of, set_each, steps_after, steps_of_body, values_of, vars_ahead, vars_of, with_both}
-use Rattle.script_requests.specs.Steps.BodyStep.{Do}
+use Rattle.spec_requests.specs.Words.{BodyStep, Frame, Variables, arguments, empty_value, frame_after_answer, frame_after_command, is_met, next_steps, procedure_body, request_ahead, request_at, request_at_end, request_of, set_each, steps_after, steps_of_body, values_of, vars_ahead, vars_of, with_both}
+use Rattle.spec_requests.specs.Steps.BodyStep.{Do}
 use Rattle.thread_machine.specs.declared.known.TestContext.{TestContext}
 use Rattle.thread_machine.specs.declared.machine.Machine.{Machine}
 use Rattle.thread_machine.specs.declared.machine.AnswerEffect.TheVariants as effect

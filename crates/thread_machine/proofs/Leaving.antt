@@ -2,9 +2,9 @@
 use Rattle.std.proofs.Common.{◌≡◌, ℕ, ◌+◌, ◌-◌, ◌<◌, ◌≤◌, List, length, drop, Some, refl, ap, ◌∙◌, sym, subst, arith, zero, suc}
 use Rattle.std.specs.Prelude.{slice_get}
 use Rattle.script_lang.specs.Types.{Kind, Line}
-use Rattle.script_line.specs.declared.line.Kind.TheVariants.{Act, Loop, Test, Closing}
-use Rattle.script_line.specs.Words.{kind_of}
-use Rattle.script_requests.specs.Words.{BodyStep, line_before, outer_blocks}
+use Rattle.line_forms.specs.declared.line.Kind.TheVariants.{Act, Loop, Test, Closing}
+use Rattle.line_forms.specs.Words.{kind_of}
+use Rattle.spec_requests.specs.Words.{BodyStep, line_before, outer_blocks}
 use Rattle.thread_machine.specs.Places.{blocks_at, IsNested, IsNestedLine, Leaves, depth_after_line}
 use Rattle.thread_machine.proofs.Positions.{drop-past}
 use Rattle.thread_machine.proofs.Walks.{LineAt, line-at, nested-here}

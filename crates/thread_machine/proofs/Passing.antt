@@ -4,9 +4,9 @@ use Rattle.std.specs.Prelude.{slice_get, ◌==◌, if◌then◌else◌}
 use Rattle.std.proofs.lemmas.Bool.Decides.{nat_tests}
 use Rattle.std.proofs.lemmas.Option.{slice_get_within}
 use Rattle.script_lang.specs.Types.{Cond, Line}
-use Rattle.script_line.specs.declared.line.Kind.TheVariants.{Act, Loop, Test, Closing}
-use Rattle.script_line.specs.Words.{kind_of}
-use Rattle.script_requests.specs.Words.{BodyStep, copies, innermost_block, line_before, next_steps, outer_blocks, steps_of_body, tested_condition, tested_steps, times_of}
+use Rattle.line_forms.specs.declared.line.Kind.TheVariants.{Act, Loop, Test, Closing}
+use Rattle.line_forms.specs.Words.{kind_of}
+use Rattle.spec_requests.specs.Words.{BodyStep, copies, innermost_block, line_before, next_steps, outer_blocks, steps_of_body, tested_condition, tested_steps, times_of}
 use Rattle.thread_machine.specs.declared.place.Place.{Place}
 use Rattle.thread_machine.specs.declared.stack.Turns.{Turns}
 use Rattle.thread_machine.specs.Places.{steps_from_blocks, steps_from, blocks_at, AtCommand, BeginsWithCommand, IsNestedLine, IsNested, IsStart, AreOpen, StandsAt, PassesLine, Leaves, place_in_block, place_after_end, is_left}

@@ -1,14 +1,14 @@
 -- A command makes the same request by what a machine holds of the variables.
 use Rattle.std.proofs.Common.{◌≡◌, ℕ, ◌<◌, ◌≤◌, List, [], ◌∷◌, take, refl, ap, ◌∙◌, arith}
 use Rattle.std.specs.Prelude.{map, slice_get, codes}
-use Rattle.script_text.specs.Types.{Fd, Pass}
+use Rattle.line_text.specs.Types.{Fd, Pass}
 use Rattle.dk_base.specs.declared.request.Request.TheVariants as request
 use Rattle.script_lang.specs.Types.{FdArg, Line, PassArg, Piece}
-use Rattle.script_line.specs.declared.line.FdArg.TheVariants.{Number, Of as OfFd}
-use Rattle.script_line.specs.declared.line.Line.TheVariants as line
-use Rattle.script_line.specs.declared.line.Piece.TheVariants.{Text, Of, Fill}
-use Rattle.script_line.specs.Words.{First, Spelling, SpellsLine, SpellsMorePieces, SpellsPassList, SpellsPieces, Tables, Then}
-use Rattle.script_requests.specs.Words.{Value, Variables, data_of, fd_of, greatest_data, or_no_descriptor, pass_of, piece_bytes, request_at}
+use Rattle.line_forms.specs.declared.line.FdArg.TheVariants.{Number, Of as OfFd}
+use Rattle.line_forms.specs.declared.line.Line.TheVariants as line
+use Rattle.line_forms.specs.declared.line.Piece.TheVariants.{Text, Of, Fill}
+use Rattle.line_forms.specs.Words.{First, Spelling, SpellsLine, SpellsMorePieces, SpellsPassList, SpellsPieces, Tables, Then}
+use Rattle.spec_requests.specs.Words.{Value, Variables, data_of, fd_of, greatest_data, or_no_descriptor, pass_of, piece_bytes, request_at}
 use Rattle.thread_machine.specs.Bodies.{IsSpelledLine}
 use Rattle.thread_machine.specs.Slots.{Slot, slot_value, Holds, greatest_descriptors}
 use Rattle.thread_machine.proofs.Cuts.{take-take, take-flat_map, slice_get-take}

@@ -3,17 +3,17 @@ use Rattle.std.proofs.Common.{◌≡◌, ℕ, ◌+◌, ◌-◌, ◌<◌, Bool, t
 use Rattle.std.specs.Prelude.{◌&&◌, ◌||◌, not, nat_le, nat_lt, slice_get, ◌==◌, if◌then◌else◌}
 use Rattle.std.proofs.lemmas.Bool.{false≢true}
 use Rattle.std.proofs.lemmas.Bool.Decides.{nat_tests}
-use Rattle.script_text.specs.Words.{lines_of, words_of}
+use Rattle.line_text.specs.Words.{lines_of, words_of}
 use Rattle.script_lang.specs.Types.{Kind, Line}
-use Rattle.script_line.specs.declared.line.Kind.TheVariants as kind
+use Rattle.line_forms.specs.declared.line.Kind.TheVariants as kind
 use Rattle.dk_base.specs.ByNumber.{at_number}
-use Rattle.script_line.specs.Words.{Tables, depth_after, kind_of}
-use Rattle.script_requests.specs.Types.{Procedure, ScriptLine, ScriptPlace, ScriptThread}
+use Rattle.line_forms.specs.Words.{Tables, depth_after, kind_of}
+use Rattle.spec_requests.specs.Types.{Procedure, ScriptLine, ScriptPlace, ScriptThread}
 use Rattle.script_lang.specs.declared.item.ScriptLine.TheVariants as item
 use Rattle.script_lang.specs.declared.item.ScriptPlace.TheVariants as place
 use Rattle.script_lang.specs.Words.{ContextValue, ScriptValue, SkipsNext, SpellsLines, SpellsNext, SpellsScript, SpellsScriptLines, before_line, body_from, context_after, context_at_depth, context_with_variables, first_context, is_block_start, is_closed_place, is_of_place, is_request, procedures_from, spells, tables_of, threads_from, variables_with}
 use Rattle.thread_machine.specs.Bodies.{IsSpelledLine, AreSpelled, IsBody}
-use Rattle.script_requests.specs.Words.{body_or_empty}
+use Rattle.spec_requests.specs.Words.{body_or_empty}
 use Rattle.thread_machine.specs.Machines.{body_of, body_of_thread}
 use Rattle.thread_machine.specs.Places.{BeginsWithCommand, IsNested}
 use Rattle.thread_machine.proofs.SpelledLines.{loop-times}

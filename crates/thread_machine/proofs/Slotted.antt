@@ -5,9 +5,9 @@ use Rattle.std.proofs.lemmas.Bool.{false≢true}
 use Rattle.std.proofs.lemmas.Slice.Eq.{bytes_eq-Decides}
 use Rattle.std.specs.Prelude.{slice_get, bytes_eq, position, if◌then◌else◌, not}
 use Rattle.std.specs.List.{position_or_len}
-use Rattle.script_text.specs.Types.{Answer, Fd}
-use Rattle.script_line.proofs.PathSearch.{bytes_eq_comm, place_found, place_missing}
-use Rattle.script_requests.specs.Words.{Value, Variables, empty_value, greatest_data, no_variables, set_each, set_variable, values_of, with_both}
+use Rattle.line_text.specs.Types.{Answer, Fd}
+use Rattle.line_forms.proofs.PathSearch.{bytes_eq_comm, place_found, place_missing}
+use Rattle.spec_requests.specs.Words.{Value, Variables, empty_value, greatest_data, no_variables, set_each, set_variable, values_of, with_both}
 use Rattle.thread_machine.specs.Slots.{Slot, visible_value, slot_value, place_of, is_named, Holds, set_some, greatest_descriptors}
 use Rattle.thread_machine.proofs.Cuts.{take-nil}
 use Rattle.thread_machine.proofs.Positions.{slice_get-index, slice_get-past}

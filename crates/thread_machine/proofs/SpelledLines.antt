@@ -4,13 +4,13 @@ use Rattle.std.specs.Prelude.{◌&&◌, nat_le, slice_get, codes}
 use Rattle.std.proofs.lemmas.Bool.{false≢true}
 use Rattle.std.proofs.lemmas.Bool.Decides.{nat_tests}
 use Rattle.std.specs.List.{list_all}
-use Rattle.script_text.specs.Words.{SpellsName, is_letter, is_name, is_name_byte}
+use Rattle.line_text.specs.Words.{SpellsName, is_letter, is_name, is_name_byte}
 use Rattle.script_lang.specs.Types.{FdArg, Line, PassArg}
-use Rattle.script_line.specs.declared.line.FdArg.TheVariants.{Number, Of as OfFd}
-use Rattle.script_line.specs.declared.line.Kind.TheVariants.{Loop}
-use Rattle.script_line.specs.declared.line.Line.TheVariants as line
-use Rattle.script_line.specs.Words.{Each, First, Spelling, SpellsFd, SpellsLine, SpellsPass, Tables, Then, kind_of}
-use Rattle.script_requests.specs.Words.{times_of, vars_of}
+use Rattle.line_forms.specs.declared.line.FdArg.TheVariants.{Number, Of as OfFd}
+use Rattle.line_forms.specs.declared.line.Kind.TheVariants.{Loop}
+use Rattle.line_forms.specs.declared.line.Line.TheVariants as line
+use Rattle.line_forms.specs.Words.{Each, First, Spelling, SpellsFd, SpellsLine, SpellsPass, Tables, Then, kind_of}
+use Rattle.spec_requests.specs.Words.{times_of, vars_of}
 use Rattle.thread_machine.specs.Bodies.{IsSpelledLine}
 use Rattle.thread_machine.specs.Slots.{IsShort, greatest_name}
 

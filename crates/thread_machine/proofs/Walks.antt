@@ -2,10 +2,10 @@
 use Rattle.std.proofs.Common.{◌≡◌, ℕ, ◌+◌, Bool, List, [], ◌∷◌, ◌++◌, length, drop, Some, None, refl, ap, ◌∙◌, subst, append_assoc, arith, zero, suc, add-one}
 use Rattle.std.specs.Prelude.{slice_get, if◌then◌else◌}
 use Rattle.script_lang.specs.Types.{Cond, Line}
-use Rattle.script_line.specs.declared.line.Kind.TheVariants.{Act}
-use Rattle.script_line.specs.Words.{kind_of}
-use Rattle.script_requests.specs.Words.{BodyStep, blocks_of, copies, innermost_block, line_before, next_steps, outer_blocks, steps_of_body}
-use Rattle.script_requests.specs.Steps.BodyStep.{Do, When}
+use Rattle.line_forms.specs.declared.line.Kind.TheVariants.{Act}
+use Rattle.line_forms.specs.Words.{kind_of}
+use Rattle.spec_requests.specs.Words.{BodyStep, blocks_of, copies, innermost_block, line_before, next_steps, outer_blocks, steps_of_body}
+use Rattle.spec_requests.specs.Steps.BodyStep.{Do, When}
 use Rattle.thread_machine.specs.declared.place.Place.{Place}
 use Rattle.thread_machine.specs.declared.stack.Turns.{Turns}
 use Rattle.thread_machine.specs.Places.{steps_from_blocks, steps_from, blocks_at, AtCommand, IsNestedLine, IsNested, AreOpen, StandsAt}

@@ -1,7 +1,7 @@
 -- The bodies of a script that some text spells: every line is spelled, and every block is closed.
 use Rattle.std.specs.Prelude.{ℕ, List, [], ◌∷◌}
 use Rattle.script_lang.specs.Types.{Line}
-use Rattle.script_line.specs.Words.{SpellsLine, Tables}
+use Rattle.line_forms.specs.Words.{SpellsLine, Tables}
 use Rattle.thread_machine.specs.Places.{IsNested}
 
 pub record IsSpelledLine (line : Line) : Type 0 where

@@ -1,10 +1,10 @@
 -- What a machine keeps of the last answer, and what its tests say by it.
 use Rattle.std.specs.Prelude.{Bool, true, false, if◌then◌else◌, bytes_eq}
 use Rattle.dk_base.specs.Words.{errno_name}
-use Rattle.script_text.specs.Types.{Answer, Errno}
+use Rattle.line_text.specs.Types.{Answer, Errno}
 use Rattle.dk_base.specs.declared.answer.Answer.TheVariants as answer
 use Rattle.script_lang.specs.Types.{Cond}
-use Rattle.script_line.specs.declared.line.Cond.TheVariants as cond
+use Rattle.line_forms.specs.declared.line.Cond.TheVariants as cond
 use Rattle.thread_machine.specs.declared.known.TestContext.{TestContext}
 use Rattle.thread_machine.specs.declared.known.LastAnswer.{LastAnswer}
 use Rattle.thread_machine.specs.declared.known.LastAnswer.TheVariants.{Good, Yes, Failed}

@@ -1,12 +1,12 @@
 -- Where a machine stands in its script.
 use Rattle.std.specs.Prelude.{ℕ, ◌≡◌, ◌<◌, ◌≤◌, Bool, true, false, List, [], length, drop, Option, Some, None}
-use Rattle.script_text.specs.Types.{Answer}
+use Rattle.line_text.specs.Types.{Answer}
 use Rattle.dk_base.specs.declared.answer.Answer.TheVariants as answer
 use Rattle.script_lang.specs.Types.{Line}
-use Rattle.script_requests.specs.Types.{ScriptThread}
+use Rattle.spec_requests.specs.Types.{ScriptThread}
 use Rattle.script_lang.specs.Words.{ScriptValue}
 use Rattle.dk_base.specs.ByNumber.{at_number}
-use Rattle.script_requests.specs.Words.{BodyStep, Frame, Variables, arguments, empty_value, first_body, next_steps, procedure_body, with_both}
+use Rattle.spec_requests.specs.Words.{BodyStep, Frame, Variables, arguments, empty_value, first_body, next_steps, procedure_body, with_both}
 use Rattle.thread_machine.specs.declared.machine.Machine.{Machine}
 use Rattle.thread_machine.specs.declared.machine.AnswerEffect.{AnswerEffect}
 use Rattle.thread_machine.specs.declared.machine.AnswerEffect.TheVariants.{BeginsFrame, KeepsFrame, EndsCommand}

@@ -1,9 +1,9 @@
 -- Where a machine stands in a body: before a line, in blocks of which some turns are left.
 use Rattle.std.specs.Prelude.{ℕ, zero, suc, ◌+◌, ◌-◌, ◌==◌, ◌≡◌, ◌<◌, ◌≤◌, Bool, true, false, if◌then◌else◌, List, [], ◌∷◌, ◌++◌, length, drop}
 use Rattle.script_lang.specs.Types.{Cond, Kind, Line}
-use Rattle.script_line.specs.declared.line.Kind.TheVariants.{Act, Loop, Test, Closing}
-use Rattle.script_line.specs.Words.{kind_of}
-use Rattle.script_requests.specs.Words.{BodyStep, blocks_of, copies, innermost_block, next_steps, outer_blocks, steps_of_body, times_of}
+use Rattle.line_forms.specs.declared.line.Kind.TheVariants.{Act, Loop, Test, Closing}
+use Rattle.line_forms.specs.Words.{kind_of}
+use Rattle.spec_requests.specs.Words.{BodyStep, blocks_of, copies, innermost_block, next_steps, outer_blocks, steps_of_body, times_of}
 use Rattle.thread_machine.specs.declared.place.Place.{Place}
 use Rattle.thread_machine.specs.declared.stack.Turns.{Turns}
 

@@ -1,6 +1,6 @@
 -- Variables as a machine keeps them: as much of each value as can be seen.
 use Rattle.std.specs.Prelude.{ℕ, zero, suc, ◌≡◌, ◌≤◌, Bool, length, if◌then◌else◌, List, [], ◌∷◌, Option, Some, None, bytes_eq, take}
-use Rattle.script_requests.specs.Words.{Value, Variables, empty_value, greatest_data, set_variable}
+use Rattle.spec_requests.specs.Words.{Value, Variables, empty_value, greatest_data, set_variable}
 
 pub record Slot : Type 0 where
   pub name : List ℕ

@@ -1,5 +1,5 @@
 ghost use Rattle.std.specs.Prelude.{◌≡◌, ◌≤◌, ◌-◌, ◌++◌, length, map, take, replicate, IfOk, OnOk};
-ghost use Rattle.script_requests.specs.Words.{data_of, fd_of, greatest_data as greatest_data_of, pass_of, piece_bytes};
+ghost use Rattle.spec_requests.specs.Words.{data_of, fd_of, greatest_data as greatest_data_of, pass_of, piece_bytes};
 ghost use Rattle.thread_machine.specs.Slots.{slot_value};
 
 use crate::fill::first_items;
@@ -9,7 +9,7 @@ use dk_base::error::NoMemory;
 use dk_base::list::{Bytes, FdList, PassList};
 use dk_base::number::Fd;
 use dk_base::object::Pass;
-use script_line::line::{FdArg, PassArg, Piece};
+use line_forms::line::{FdArg, PassArg, Piece};
 use std::alloc::Global;
 
 /// A number that no table has.

@@ -3,7 +3,7 @@ ghost use Rattle.thread_machine.specs.LastAnswers.{is_met_in, last_answer as las
 
 use dk_base::answer::Answer;
 use dk_base::error::Errno;
-use script_line::line::Cond;
+use line_forms::line::Cond;
 
 /// What a test asks of the last answer.
 #[derive(Clone, Copy, Debug, PartialEq, Eq)]

@@ -1,7 +1,7 @@
 ghost use Rattle.std.specs.Prelude.{◌≡◌, option_copied, slice_get};
-ghost use Rattle.script_requests.specs.Words.{tested_condition as tested_condition_of, times_of as times_of_line, vars_of};
+ghost use Rattle.spec_requests.specs.Words.{tested_condition as tested_condition_of, times_of as times_of_line, vars_of};
 
-use script_line::line::{Cond, Line};
+use line_forms::line::{Cond, Line};
 
 /// How often the block of a `repeat` is run.
 pub fn times_of(line: &Line) -> u32

@@ -1,6 +1,6 @@
 ghost use Rattle.std.specs.Prelude.{◌≡◌, ◌<◌, ◌≤◌, length, IfOk, OnOk, [], Some};
 ghost use Rattle.script_lang.specs.Words.{ScriptValue};
-ghost use Rattle.script_requests.specs.Words.{Frame, arguments, first_frame, frame_after_answer, request_of, set_each, steps_after, values_of, vars_ahead, with_both};
+ghost use Rattle.spec_requests.specs.Words.{Frame, arguments, first_frame, frame_after_answer, request_of, set_each, steps_after, values_of, vars_ahead, with_both};
 ghost use Rattle.thread_machine.specs.declared.known.LastAnswer.TheVariants.{Good};
 ghost use Rattle.thread_machine.specs.Machines.{HasRoomForAnswer, IsMachine, IsPlaced, Stands, HasDeclaredEntry, IsEntryOrNone, Settles, Precedes, Begins, SetsArguments, StartsFrameOf, body_of, is_in_procedure as is_in_procedure_of, effect_of as effect_of_answer};
 
@@ -14,8 +14,8 @@ use dk_base::list::{Bytes, FdList, PassList};
 use dk_base::number::{Fd, Tid};
 use dk_base::request::Request;
 use itoa::Buffer;
+use line_forms::line::Line;
 use script_lang::script::Script;
-use script_line::line::Line;
 use std::alloc::Global;
 
 /// Where a thread stands in its script: in which lines, at which of them, and what its variables hold.

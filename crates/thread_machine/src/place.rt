@@ -1,15 +1,15 @@
 ghost use Rattle.std.specs.Prelude.{◌≡◌, ◌<◌, ◌≤◌, ◌^◌, suc, length, drop, slice_get, Some};
-ghost use Rattle.script_line.specs.declared.line.Kind.TheVariants.{Closing};
-ghost use Rattle.script_line.specs.Words.{kind_of as kind_of_line};
-ghost use Rattle.script_requests.specs.Words.{next_steps};
+ghost use Rattle.line_forms.specs.declared.line.Kind.TheVariants.{Closing};
+ghost use Rattle.line_forms.specs.Words.{kind_of as kind_of_line};
+ghost use Rattle.spec_requests.specs.Words.{next_steps};
 ghost use Rattle.thread_machine.specs.Places.{IsNested, StandsAt, AtCommand, steps_from, PassesLine, Leaves, depth_after_line, place_in_block, place_after_end, is_left, first_place};
 ghost use Rattle.thread_machine.specs.LastAnswers.{is_met_in};
 
 use crate::known::TestContext;
 use crate::lines::{tested_condition, times_of};
 use crate::stack::{Stack, Turns};
+use line_forms::line::{Kind, Line};
 use script_lang::blocks::kind_of;
-use script_line::line::{Kind, Line};
 
 /// How many blocks are open after a line, where so many are before it.
 fn new_depth(depth: usize, line: &Line) -> usize

@@ -1,12 +1,12 @@
 ghost use Rattle.std.specs.Prelude.{◌≡◌, IfOk};
-ghost use Rattle.script_requests.specs.Words.{request_at};
+ghost use Rattle.spec_requests.specs.Words.{request_at};
 ghost use Rattle.thread_machine.specs.Slots.{slot_value};
 
 use crate::variables::Variables;
 use dk_base::error::NoMemory;
 use dk_base::list::{Bytes, PassList};
 use dk_base::request::Request;
-use script_line::line::Line;
+use line_forms::line::Line;
 use std::alloc::Global;
 
 impl Variables {

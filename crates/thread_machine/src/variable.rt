@@ -1,5 +1,5 @@
 ghost use Rattle.std.specs.Prelude.{◌≡◌, ◌≤◌, length, IfOk, MatchOption, slice_get};
-ghost use Rattle.script_requests.specs.Words.{greatest_data as greatest_data_of, with_both};
+ghost use Rattle.spec_requests.specs.Words.{greatest_data as greatest_data_of, with_both};
 ghost use Rattle.thread_machine.specs.Slots.{empty_slot, greatest_descriptors as greatest_descriptors_of, greatest_name as greatest_name_of, visible_value};
 
 use crate::fill::{fill, first_items};
@@ -10,7 +10,7 @@ use std::alloc::Global;
 use std::marker::Model;
 
 /// A data expression is cut to so many bytes.
-#[tactic(auto, unfolding(script_requests::specs::Variables::greatest_data))]
+#[tactic(auto, unfolding(spec_requests::specs::Variables::greatest_data))]
 pub fn greatest_data() -> usize
     ensures { result ≡ greatest_data_of }
 {
@@ -44,7 +44,7 @@ pub struct Variable {
 impl Model for Variable {
     ghost use Rattle.std.specs.Prelude.{◌+◌, ◌≤◌, length};
     ghost use Rattle.thread_machine.specs.Slots.{Slot, greatest_name, greatest_descriptors};
-    ghost use Rattle.script_requests.specs.Words.{greatest_data};
+    ghost use Rattle.spec_requests.specs.Words.{greatest_data};
 
     ghost Value = { Slot };
 

@@ -1,5 +1,5 @@
 ghost use Rattle.std.specs.Prelude.{◌≡◌, ◌+◌, ◌<◌, ◌≤◌, [], length, slice_get, Some, OnOk, IfOk, MatchOption, option_copied, position};
-ghost use Rattle.script_requests.specs.Words.{Variables as Values, empty_value, set_each, set_variable, values_of, vars_of, with_both};
+ghost use Rattle.spec_requests.specs.Words.{Variables as Values, empty_value, set_each, set_variable, values_of, vars_of, with_both};
 ghost use Rattle.thread_machine.specs.Bodies.{IsSpelledLine};
 ghost use Rattle.thread_machine.specs.Slots.{Slot, Holds, slot_value, place_of, is_named, greatest_name, set_some, IsShort};
 
@@ -8,7 +8,7 @@ use crate::variable::Variable;
 use dk_base::answer::Answer;
 use dk_base::error::NoMemory;
 use dk_base::number::Fd;
-use script_line::line::Line;
+use line_forms::line::Line;
 use std::alloc::Global;
 use std::marker::Model;
 

@@ -1,10 +1,10 @@
 -- Timers whose ids differ: one that leaves is all of its id.
 use Rattle.std.proofs.Common.{◌≡◌, ℕ, ◌==◌, not, Bool, true, false, if◌then◌else◌, List, [], ◌∷◌, Option, None, Some, filter, refl, sym, ap, ap₂, ◌∙◌, arith}
 use Rattle.std.proofs.lemmas.Bool.Decides.{nat_tests}
-use Rattle.kernel_records.specs.Words.{TimerList, arming_at, change_first, delete_timer, is_other_timer, is_timer, set_timer, timer_at, with_arming}
-use Rattle.kernel_records.proofs.Places.{change_first-none}
-use Rattle.kernel_records.specs.declared.timer.Arming.{Arming}
-use Rattle.kernel_records.specs.declared.timer.Timer.{Timer}
+use Rattle.spec_records.specs.Words.{TimerList, arming_at, change_first, delete_timer, is_other_timer, is_timer, set_timer, timer_at, with_arming}
+use Rattle.spec_records.proofs.Places.{change_first-none}
+use Rattle.spec_records.specs.declared.timer.Arming.{Arming}
+use Rattle.spec_records.specs.declared.timer.Timer.{Timer}
 use Rattle.timer_src.specs.Lists.{without_first}
 use Rattle.timer_src.specs.Table.{HaveDistinctIds}
 

@@ -5,10 +5,10 @@ use Rattle.std.proofs.lemmas.List.{map-append}
 use Rattle.std.proofs.lemmas.Map.Keys.{IsDistinct-head, IsDistinct-tail}
 use Rattle.std.specs.List.{AllByRecursion, IsDistinct}
 use Rattle.std.specs.Map.{keys_of, lookup, remove_entry, set_value}
-use Rattle.kernel_records.specs.Words.{change_first, is_timer, is_timer_of_other, timer_at, with_arming}
-use Rattle.kernel_records.proofs.Places.{change_first-none}
-use Rattle.kernel_records.specs.declared.timer.Arming.{Arming}
-use Rattle.kernel_records.specs.declared.timer.Timer.{Timer}
+use Rattle.spec_records.specs.Words.{change_first, is_timer, is_timer_of_other, timer_at, with_arming}
+use Rattle.spec_records.proofs.Places.{change_first-none}
+use Rattle.spec_records.specs.declared.timer.Arming.{Arming}
+use Rattle.spec_records.specs.declared.timer.Timer.{Timer}
 use Rattle.timer_src.specs.declared.key.Key.{Key}
 use Rattle.timer_src.specs.declared.slot.Slot.{Slot}
 use Rattle.timer_src.specs.Keys.{is_key_of_other_process, key_at, same_key}

@@ -4,9 +4,9 @@ use Rattle.std.proofs.lemmas.Bool.Decides.{nat_tests}
 use Rattle.std.proofs.lemmas.List.Sums.{sum_by-cons}
 use Rattle.dk_base.specs.declared.error.Errno.TheVariants.{EAGAIN}
 use Rattle.dk_base.specs.declared.limits.TheConstants.{TIMERS_MAX}
-use Rattle.kernel_records.specs.declared.timer.Timer.{Timer}
-use Rattle.kernel_records.specs.Words.{create_timer_error, free_id_from, has_all_timers, is_timer_of, timer_at}
-use Rattle.kernel_records.specs.Timers.{free_id}
+use Rattle.spec_records.specs.declared.timer.Timer.{Timer}
+use Rattle.spec_records.specs.Words.{create_timer_error, free_id_from, has_all_timers, is_timer_of, timer_at}
+use Rattle.spec_records.specs.Timers.{free_id}
 use Rattle.timer_src.specs.Table.{HaveDistinctIds}
 use Rattle.timer_src.specs.Value.{HaveIds}
 

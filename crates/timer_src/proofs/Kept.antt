@@ -2,11 +2,11 @@
 use Rattle.std.proofs.Common.{◌≡◌, ℕ, ◌+◌, ◌-◌, ◌*◌, ◌/◌, ◌<◌, ◌≤◌, ◌==◌, ◌||◌, not, nat_lt, Bool, true, false, if◌then◌else◌, List, [], ◌∷◌, ◌++◌, Option, None, Some, filter, find, length, map, refl, sym, subst, ap, ◌∙◌, arith, length-append}
 use Rattle.std.proofs.lemmas.Bool.Decides.{nat_tests}
 use Rattle.dk_base.specs.declared.limits.TheConstants.{CLOCK_LAST, TIMERS_MAX}
-use Rattle.kernel_records.specs.Words.{IsAscending, change_first, is_other_timer, is_timer, is_timer_of_other, timer_at, timer_number, with_arming}
-use Rattle.kernel_records.proofs.NumberedLists.{ascending-change_first, ascending-filter, ascending-push}
-use Rattle.kernel_records.proofs.Places.{length-change_first}
-use Rattle.kernel_records.specs.declared.timer.Arming.{Arming}
-use Rattle.kernel_records.specs.declared.timer.Timer.{Timer}
+use Rattle.spec_records.specs.Words.{IsAscending, change_first, is_other_timer, is_timer, is_timer_of_other, timer_at, timer_number, with_arming}
+use Rattle.spec_records.proofs.NumberedLists.{ascending-change_first, ascending-filter, ascending-push}
+use Rattle.spec_records.proofs.Places.{length-change_first}
+use Rattle.spec_records.specs.declared.timer.Arming.{Arming}
+use Rattle.spec_records.specs.declared.timer.Timer.{Timer}
 use Rattle.timer_src.specs.Lists.{without_first}
 use Rattle.timer_src.specs.Pending.{ArmedValue, is_above, is_below, is_pending_of_other, next_from, pending_number, pending_of, pendings, stepped_all}
 use Rattle.timer_src.specs.Value.{AreKept, HaveIds}

@@ -3,9 +3,9 @@ use Rattle.std.proofs.Common.{◌≡◌, ℕ, zero, suc, ◌+◌, ◌-◌, ◌*�
 use Rattle.std.proofs.Math.Nat.{add-mul-div_right, lt-div-mul-add, div-mul-le_self}
 use Rattle.std.proofs.lemmas.Nat.{div-mul-add}
 use Rattle.std.proofs.lemmas.Bool.Decides.{nat_tests}
-use Rattle.kernel_records.specs.declared.timer.Arming.{Arming}
-use Rattle.kernel_records.specs.Words.{due_count, moments_from}
-use Rattle.kernel_records.specs.Moments.{moments_until}
+use Rattle.spec_records.specs.declared.timer.Arming.{Arming}
+use Rattle.spec_records.specs.Words.{due_count, moments_from}
+use Rattle.spec_records.specs.Moments.{moments_until}
 use Rattle.timer_src.specs.Pending.{has_next, interval_of, next_from, next_moment, ticks}
 
 -- quotients

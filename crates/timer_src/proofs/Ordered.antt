@@ -3,7 +3,7 @@ use Rattle.std.proofs.Common.{◌≡◌, ℕ, zero, suc, ◌+◌, ◌<◌, ◌�
 use Rattle.std.proofs.lemmas.Bool.Decides.{nat_tests}
 use Rattle.std.specs.List.{insert, remove}
 use Rattle.std.specs.List.Sorted.{IsPartitionPoint, IsPartitionedBy}
-use Rattle.kernel_records.specs.Words.{IsAscending}
+use Rattle.spec_records.specs.Words.{IsAscending}
 use Rattle.timer_src.specs.declared.pending.Pending.{Pending}
 use Rattle.timer_src.specs.Pending.{is_above, is_at, is_below, pending_number}
 

@@ -1,9 +1,9 @@
 -- The timers that have a moment to come, as timers are armed, end, and the clock moves on.
 use Rattle.std.proofs.Common.{◌≡◌, ℕ, suc, ◌+◌, ◌<◌, ◌≤◌, ◌==◌, not, nat_le, nat_lt, Bool, true, false, if◌then◌else◌, List, [], ◌∷◌, ◌++◌, None, Some, filter, find, length, map, refl, sym, subst, ap, ◌∙◌, arith}
 use Rattle.std.proofs.lemmas.Bool.Decides.{nat_tests}
-use Rattle.kernel_records.specs.Words.{IsAscending, change_first, due_count, due_of, dues_of, is_due, is_timer_of_other, timer_number}
-use Rattle.kernel_records.proofs.NumberedLists.{ascending-lower}
-use Rattle.kernel_records.specs.declared.timer.Timer.{Timer}
+use Rattle.spec_records.specs.Words.{IsAscending, change_first, due_count, due_of, dues_of, is_due, is_timer_of_other, timer_number}
+use Rattle.spec_records.proofs.NumberedLists.{ascending-lower}
+use Rattle.spec_records.specs.declared.timer.Timer.{Timer}
 use Rattle.timer_src.specs.declared.pending.Pending.{Pending}
 use Rattle.timer_src.specs.Lists.{without_first}
 use Rattle.timer_src.specs.Pending.{due_pending, has_next, interval_of, is_above, is_below, is_pending, is_pending_of_other, is_ready, next_from, next_moment, pending_number, pending_of, pendings, stepped, stepped_all, ticks, told}

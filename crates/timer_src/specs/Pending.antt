@@ -1,8 +1,8 @@
 -- The timers that have a moment to come, each with the next one. What the code computes by divisions.
 use Rattle.std.specs.Prelude.{ℕ, ◌+◌, ◌-◌, ◌*◌, ◌/◌, ◌==◌, ◌||◌, Bool, false, List, Option, None, Some, not, if◌then◌else◌, filter, map, nat_le, nat_lt, slice_get}
-use Rattle.kernel_records.specs.declared.timer.Arming.{Arming}
-use Rattle.kernel_records.specs.declared.timer.Due.{Due}
-use Rattle.kernel_records.specs.declared.timer.Timer.{Timer}
+use Rattle.spec_records.specs.declared.timer.Arming.{Arming}
+use Rattle.spec_records.specs.declared.timer.Due.{Due}
+use Rattle.spec_records.specs.declared.timer.Timer.{Timer}
 use Rattle.timer_src.specs.declared.pending.Pending.{Pending}
 
 -- of the moments m, m + interval, .. the first that comes after a clock; m itself where the interval is 0

@@ -1,7 +1,7 @@
 -- Timers as a map keeps them.
 use Rattle.std.specs.Prelude.{◌≡◌, List, [], ◌∷◌, None, map}
-use Rattle.kernel_records.specs.Words.{pid, timer_at}
-use Rattle.kernel_records.specs.declared.timer.Timer.{Timer}
+use Rattle.spec_records.specs.Words.{pid, timer_at}
+use Rattle.spec_records.specs.declared.timer.Timer.{Timer}
 use Rattle.timer_src.specs.declared.key.Key.{Key}
 use Rattle.timer_src.specs.declared.slot.Slot.{Slot}
 

@@ -3,8 +3,8 @@ use Rattle.std.specs.Prelude.{◌≡◌, ◌⊎◌, ℕ, ◌<◌, ◌≤◌, Non
 use Rattle.dk_base.specs.declared.error.Refusal.{Refusal}
 use Rattle.dk_base.specs.declared.error.Refusal.TheVariants.{Memory}
 use Rattle.dk_base.specs.declared.limits.TheConstants.{CLOCK_LAST, TIMERS_MAX}
-use Rattle.kernel_records.specs.Words.{IsAscending, TimerList, create_timer_answer, create_timer_error, timer_number}
-use Rattle.kernel_records.specs.declared.timer.Timer.{Timer}
+use Rattle.spec_records.specs.Words.{IsAscending, TimerList, create_timer_answer, create_timer_error, timer_number}
+use Rattle.spec_records.specs.declared.timer.Timer.{Timer}
 use Rattle.timer_src.specs.Pending.{ArmedValue, pendings}
 
 -- the clock with the timers; and how many more take no memory

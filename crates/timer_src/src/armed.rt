@@ -2,14 +2,14 @@
 ghost use Rattle.std.specs.Prelude.{◌≡◌, ◌+◌, ◌<◌, ◌≤◌, ◌++◌, ℕ, [], ◌∷◌, IsOk, OnOk, false, filter, length, true};
 ghost use Rattle.std.specs.List.Sorted.{IsPartitionPoint, IsPartitionedBy};
 ghost use Rattle.dk_base.specs.declared.limits.TheConstants.{CLOCK_LAST};
-ghost use Rattle.kernel_records.specs.Words.{IsAscending};
+ghost use Rattle.spec_records.specs.Words.{IsAscending};
 ghost use Rattle.timer_src.specs.Pending.{is_above, is_at, is_below, is_pending_of_other, pending_number, stepped_all, told};
 
 use crate::pending::{Pending, step, tell};
 use dk_base::error::NoMemory;
 use dk_base::list::Room;
 use dk_base::number::Pid;
-use kernel_records::timer::Due;
+use spec_records::timer::Due;
 use std::alloc::Global;
 use std::marker::Model;
 

@@ -1,7 +1,7 @@
 //! What the counts of moments are to each other as the clock moves on. Nothing runs here.
 ghost use Rattle.std.specs.Prelude.{◌≡◌, ℕ, ◌+◌, ◌<◌, ◌≤◌, [], Some, length};
-ghost use Rattle.kernel_records.specs.declared.timer.Arming.{Arming};
-ghost use Rattle.kernel_records.specs.Words.{due_count, moments_until};
+ghost use Rattle.spec_records.specs.declared.timer.Arming.{Arming};
+ghost use Rattle.spec_records.specs.Words.{due_count, moments_until};
 
 /// The moments of an arming up to a clock are those up to an earlier one and those that were counted in between. So while an arming
 /// lasts, the counts that were told of it add up to its moments up to the clock.

@@ -4,7 +4,7 @@ ghost use Rattle.dk_base.specs.declared.limits.TheConstants.{CLOCK_LAST};
 ghost use Rattle.timer_src.specs.Pending.{due_pending, next_from, stepped, ticks, told};
 
 use dk_base::list::Room;
-use kernel_records::timer::{Due, Tag};
+use spec_records::timer::{Due, Tag};
 
 /// A timer with its next moment.
 #[derive(Clone, Copy)]

@@ -1,11 +1,11 @@
 //! The timers of a process that ends.
 ghost use Rattle.std.specs.Prelude.{◌≡◌, ◌+◌, ◌≤◌, ◌++◌, length};
-ghost use Rattle.kernel_records.specs.Words.{tag_of, tags_of, timers_of};
+ghost use Rattle.spec_records.specs.Words.{tag_of, tags_of, timers_of};
 
 use crate::table::Table;
 use dk_base::list::Room;
 use dk_base::number::Pid;
-use kernel_records::timer::{Tag, Timer};
+use spec_records::timer::{Tag, Timer};
 
 pub fn tag_of(t: &Timer) -> Tag
     ensures { result ≡ tag_of t.now }

@@ -4,7 +4,7 @@ ghost use Rattle.timer_src.specs.Table.{timer_of};
 
 use crate::key::Key;
 use dk_base::number::Pid;
-use kernel_records::timer::{Arming, Timer};
+use spec_records::timer::{Arming, Timer};
 
 #[derive(Clone, Copy)]
 pub struct Slot {

@@ -1,6 +1,6 @@
 //! Timers by their keys, in the order in which they were made.
 ghost use Rattle.std.specs.Prelude.{◌≡◌, ◌+◌, ◌<◌, ◌≤◌, ◌++◌, ◌^◌, [], ◌∷◌, None, IsOk, OnOk, filter, length, slice_get};
-ghost use Rattle.kernel_records.specs.Words.{change_first, is_other_timer, is_timer, is_timer_of_other, timer_at, with_arming};
+ghost use Rattle.spec_records.specs.Words.{change_first, is_other_timer, is_timer, is_timer_of_other, timer_at, with_arming};
 ghost use Rattle.timer_src.specs.Keys.{is_key_of_other_process};
 ghost use Rattle.timer_src.specs.Lists.{without_first};
 ghost use Rattle.timer_src.specs.Table.{HaveDistinctIds};
@@ -10,7 +10,7 @@ use crate::slot::{Slot, timer_of};
 use dk_base::error::NoMemory;
 use dk_base::number::Pid;
 use indexmap::IndexMap;
-use kernel_records::timer::{Arming, Timer};
+use spec_records::timer::{Arming, Timer};
 use std::alloc::Global;
 use std::marker::Model;
 
@@ -24,7 +24,7 @@ pub struct Table {
 impl Model for Table {
     ghost use Rattle.indexmap.specs.IndexMap.{spare, IsUnique};
     ghost use Rattle.dk_base.specs.Spare.{RoomValue};
-    ghost use Rattle.kernel_records.specs.declared.timer.Timer.{Timer};
+    ghost use Rattle.spec_records.specs.declared.timer.Timer.{Timer};
     ghost use Rattle.timer_src.specs.Keys.{same_key};
     ghost use Rattle.timer_src.specs.Table.{timers_in};
 

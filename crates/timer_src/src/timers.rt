@@ -1,7 +1,7 @@
 //! The timers of a kernel.
 ghost use Rattle.std.specs.Prelude.{◌≡◌, ◌+◌, ◌-◌, ◌<◌, ◌≤◌, ◌++◌, ◌^◌, None, OnErr, OnOk, IfNone, IfSome, IsOk, Some, length};
 ghost use Rattle.dk_base.specs.declared.limits.TheConstants.{ADVANCE_MAX, CLOCK_LAST, CLOCK_MAX, DELAY_MAX, EVENTS_MAX, TIMERS_MAX};
-ghost use Rattle.kernel_records.specs.Words.{IsAscending, advance_clock, change_first, create_timer, create_timer_answer, create_timer_error, delete_timer, dues, end_process_timers, free_id, is_timer, no_timers, set_timer, tag_answer, tag_of, tags_of, timer_at, timer_error, timer_number, timers_of, with_arming};
+ghost use Rattle.spec_records.specs.Words.{IsAscending, advance_clock, change_first, create_timer, create_timer_answer, create_timer_error, delete_timer, dues, end_process_timers, free_id, is_timer, no_timers, set_timer, tag_answer, tag_of, tags_of, timer_at, timer_error, timer_number, timers_of, with_arming};
 ghost use Rattle.timer_src.specs.Value.{CreatesOrWants};
 
 use crate::armed::Armed;
@@ -12,7 +12,7 @@ use dk_base::error::{Errno, NoMemory, Refusal};
 use dk_base::limits::TIMERS_MAX;
 use dk_base::list::Room;
 use dk_base::number::Pid;
-use kernel_records::timer::{Arming, Due, Tag, Timer};
+use spec_records::timer::{Arming, Due, Tag, Timer};
 use std::alloc::Global;
 use std::marker::Model;
 

@@ -2,7 +2,7 @@
 use Rattle.std.proofs.Common.{◌≡◌, ℕ, ◌+◌, ◌-◌, ◌<◌, ◌≤◌, ◌==◌, Bool, true, false, List, ◌∷◌, length, take, drop, get_or, Option, Some, None, refl, sym, ap, ◌∙◌, subst, arith, add-one, drop-cons, length-drop}
 use Rattle.std.specs.Prelude.{option_map, ◌&&◌, if◌then◌else◌}
 use Rattle.std.proofs.lemmas.List.{take_all}
-use Rattle.written_trace.specs.Words.{begins_with_trace_line, trace_place, trace_place_from}
+use Rattle.spec_traces.specs.Words.{begins_with_trace_line, trace_place, trace_place_from}
 
 -- a place counted from so many bytes before
 abbrev pub place_behind : ℕ → Option ℕ → Option ℕ

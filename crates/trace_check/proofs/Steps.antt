@@ -2,15 +2,15 @@
 use Rattle.std.proofs.Common.{◌≡◌, ℕ, ◌+◌, ◌-◌, ◌<◌, Bool, true, false, List, [], ◌∷◌, ◌++◌, length, Some, None, refl, sym, ap, ◌∙◌, arith, length-append}
 use Rattle.std.specs.Prelude.{slice_get, bytes_eq, is_none, nat_le, ◌||◌, if◌then◌else◌}
 use Rattle.std.proofs.lemmas.Bool.Decides.{nat_tests}
-use Rattle.written_kernel.specs.Types.{Event}
-use Rattle.written_kernel.specs.Words.{least_runnable}
-use Rattle.script_text.specs.Words.{lines_of}
+use Rattle.spec_kernel.specs.Types.{Event}
+use Rattle.spec_kernel.specs.Words.{least_runnable}
+use Rattle.line_text.specs.Words.{lines_of}
 use Rattle.script_lang.specs.Words.{ScriptValue}
-use Rattle.script_requests.specs.Words.{line_of}
-use Rattle.written_script.specs.Words.{History, event_at_turn, history_after, is_over, run}
-use Rattle.written_trace.specs.declared.verdict.Verdict.{Verdict}
-use Rattle.written_trace.specs.declared.verdict.Verdict.TheVariants.{Differs}
-use Rattle.written_trace.specs.Words.{line_after, line_of_turn, turn_in_line, verdict, verdict_at_end, verdict_from, verdict_of_turn}
+use Rattle.spec_requests.specs.Words.{line_of}
+use Rattle.spec_scripts.specs.Words.{History, event_at_turn, history_after, is_over, run}
+use Rattle.spec_traces.specs.declared.verdict.Verdict.{Verdict}
+use Rattle.spec_traces.specs.declared.verdict.Verdict.TheVariants.{Differs}
+use Rattle.spec_traces.specs.Words.{line_after, line_of_turn, turn_in_line, verdict, verdict_at_end, verdict_from, verdict_of_turn}
 use Rattle.sys_run.specs.Sys.{SysValue, history, with_journal, with_turn}
 use Rattle.sys_run.proofs.Journals.{history-with_turn, length-history}
 use Rattle.trace_check.specs.Lines.{ChecksLine}

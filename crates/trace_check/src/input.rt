@@ -1,7 +1,7 @@
 //! A script and a trace in one input.
 
 ghost use Rattle.std.specs.Prelude.{◌≡◌, ◌<◌, length, option_copied, IfSome};
-ghost use Rattle.written_trace.specs.Words.{begins_with_trace_line as begins_with_line, script_part, trace_part, trace_place as place_of_line};
+ghost use Rattle.spec_traces.specs.Words.{begins_with_trace_line as begins_with_line, script_part, trace_part, trace_place as place_of_line};
 
 /// As many bytes as the line `trace` and its line feed have.
 const TRACE_LINE: usize = 6;

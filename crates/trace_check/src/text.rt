@@ -1,13 +1,13 @@
 //! A verdict as text.
 
 ghost use Rattle.std.specs.Prelude.{◌≡◌, ◌∷◌, ◌++◌, [], IfOk, OnOk};
-ghost use Rattle.written_trace.specs.Words.{verdict_text, worded_text};
+ghost use Rattle.spec_traces.specs.Words.{verdict_text, worded_text};
 
 use dk_base::error::NoMemory;
 use dk_base::list::Bytes;
-use script_text::writer::Writer;
+use line_text::writer::Writer;
+use spec_traces::verdict::Verdict;
 use std::alloc::Global;
-use written_trace::verdict::Verdict;
 
 /// Adds a line of a word and a text after it, if any. Want of memory may leave a part of it.
 fn push_worded(text: &mut Writer, word: &[u8], after: &[u8]) -> Result<(), NoMemory>
@@ -21,7 +21,7 @@ fn push_worded(text: &mut Writer, word: &[u8], after: &[u8]) -> Result<(), NoMem
 }
 
 /// `legal N`, or `illegal line N` and two lines more, of what is wanted there and of what stands there.
-#[tactic(auto, unfolding(written_trace::specs::VerdictText::verdict_text))]
+#[tactic(auto, unfolding(spec_traces::specs::VerdictText::verdict_text))]
 pub fn text_of_verdict(alloc: Global, verdict: &Verdict) -> Result<Bytes, NoMemory>
     ensures { IfOk result (λ text. text ≡ verdict_text verdict.now) }
 {

@@ -2,24 +2,24 @@
 
 ghost use Rattle.std.specs.Prelude.{◌≡◌, ◌≤◌, ◌<◌, length, bytes_eq, option_map, IfOk, OnOk, true, false};
 ghost use Rattle.dk_base.specs.declared.limits.TheConstants.{BUDGET_MAX};
-ghost use Rattle.script_text.specs.Words.{lines_of};
-ghost use Rattle.written_script.specs.Words.{is_over};
-ghost use Rattle.written_trace.specs.Words.{is_tail_line as is_tail, turn_in_line as turn_of_line, verdict, verdict_after_end, verdict_at_end, verdict_from, verdict_after_tail};
+ghost use Rattle.line_text.specs.Words.{lines_of};
+ghost use Rattle.spec_scripts.specs.Words.{is_over};
+ghost use Rattle.spec_traces.specs.Words.{is_tail_line as is_tail, turn_in_line as turn_of_line, verdict, verdict_after_end, verdict_at_end, verdict_from, verdict_after_tail};
 ghost use Rattle.sys_run.specs.Words.{history};
 ghost use Rattle.sys_run.specs.Sys.{with_turn};
-ghost use Rattle.written_kernel.specs.Words.{is_runnable};
+ghost use Rattle.spec_kernel.specs.Words.{is_runnable};
 ghost use Rattle.trace_check.specs.Lines.{ChecksLine};
 
 use dk_base::error::NoMemory;
 use dk_base::list::Bytes;
 use dk_base::number::Tid;
+use line_text::lines::next_line;
+use line_text::number::{Number, bounded_number};
 use script_lang::script::Script;
-use script_text::lines::next_line;
-use script_text::number::{Number, bounded_number};
+use spec_traces::verdict::Verdict;
 use std::alloc::Global;
 use sys_run::sys::Sys;
 use trace_text::{end_line, line, thread_of};
-use written_trace::verdict::Verdict;
 
 /// Another text is wanted at a line than stands there.
 fn differs(alloc: Global, line: u32, want: &[u8], have: &[u8]) -> Result<Verdict, NoMemory>

@@ -6,13 +6,13 @@ use Rattle.std.proofs.lemmas.Bool.{false≢true}
 use Rattle.std.proofs.lemmas.Slice.Eq.{bytes_eq-Decides}
 use Rattle.std.proofs.lemmas.List.Sums.{fails_before_first}
 use Rattle.std.proofs.lemmas.Option.{slice_get_within, get_or_from_slice_get}
-use Rattle.script_text.specs.Types.{Tid}
+use Rattle.line_text.specs.Types.{Tid}
 use Rattle.dk_base.specs.ByNumber.{at_number}
-use Rattle.script_line.specs.Words.{from_one, is_same}
-use Rattle.script_line.proofs.Numbering.{name_of_number, same_some, no_value}
-use Rattle.script_line.proofs.PathSearch.{place_missing}
+use Rattle.line_forms.specs.Words.{from_one, is_same}
+use Rattle.line_forms.proofs.Numbering.{name_of_number, same_some, no_value}
+use Rattle.line_forms.proofs.PathSearch.{place_missing}
 use Rattle.script_lang.specs.Words.{ScriptValue, tables_of}
-use Rattle.script_requests.specs.Words.{NamesThread, second_word, thread_named}
+use Rattle.spec_requests.specs.Words.{NamesThread, second_word, thread_named}
 
 -- a name that has no place stands nowhere
 nowhere : (names : List (List ℕ)) (name : List ℕ) (i : ℕ) → position (is_same name) names ≡ None → slice_get names i ≡ Some name → ⊥

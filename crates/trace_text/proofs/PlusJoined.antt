@@ -5,7 +5,7 @@ use Rattle.std.specs.List.{join_with_byte}
 use Rattle.std.proofs.lemmas.Bool.Decides.{nat_tests}
 use Rattle.std.proofs.lemmas.List.{take_more}
 use Rattle.std.proofs.lemmas.Grind.{flat_map-append}
-use Rattle.script_line.specs.Words.{attribute_flags, attribute_if, flag_word}
+use Rattle.line_forms.specs.Words.{attribute_flags, attribute_if, flag_word}
 
 abbrev pub has_none : List (List ℕ) → Bool
 has_none [] = true

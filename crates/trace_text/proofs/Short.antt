@@ -8,11 +8,11 @@ use Rattle.dk_base.specs.Words.{errno_name}
 use Rattle.dk_base.specs.declared.error.Errno.{Errno}
 use Rattle.dk_base.specs.declared.error.Errno.TheVariants.{E2BIG}
 use Rattle.dk_base.specs.declared.event.What.TheVariants.{Create}
-use Rattle.script_text.specs.Types.{PollSet}
-use Rattle.script_requests.specs.Types.{What}
-use Rattle.script_requests.specs.Words.{what_word}
-use Rattle.script_line.specs.Sets.{Flag, attribute_flags, has_bits, poll_flags, poll_word, word_or_empty}
-use Rattle.script_line.specs.FlagWords.{flag_word}
+use Rattle.line_text.specs.Types.{PollSet}
+use Rattle.spec_requests.specs.Types.{What}
+use Rattle.spec_requests.specs.Words.{what_word}
+use Rattle.line_forms.specs.Sets.{Flag, attribute_flags, has_bits, poll_flags, poll_word, word_or_empty}
+use Rattle.line_forms.specs.FlagWords.{flag_word}
 
 pub errno_short : (e : Errno) → length (errno_name e) ≤ 7
 errno_short E2BIG = omega arith

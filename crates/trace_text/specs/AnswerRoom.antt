@@ -1,6 +1,6 @@
 -- Room that is enough for the text of an answer.
 use Rattle.std.specs.Prelude.{ℕ, ◌+◌, ◌*◌, List, [], length}
-use Rattle.script_requests.specs.Types.{Answer}
+use Rattle.spec_requests.specs.Types.{Answer}
 use Rattle.dk_base.specs.declared.answer.Answer.TheVariants.{Info, Entered, EnteredNotice, Results, Events, Errors}
 
 -- how many descriptors, events or errors it lists

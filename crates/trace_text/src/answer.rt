@@ -2,7 +2,7 @@
 
 ghost use Rattle.std.specs.Prelude.{◌≡◌, ◌≤◌, ◌+◌, ◌*◌, ◌++◌, flat_map, decimal, length, OnOk};
 ghost use Rattle.dk_base.specs.Words.{errno_name};
-ghost use Rattle.script_requests.specs.Words.{answer_text, entered_text, event_text, fds_text, grown_text, info_text, invocation_text, made_text, notice_text, results_text, source_text, spaced_error, spaced_event, spaced_fd, target_text};
+ghost use Rattle.spec_requests.specs.Words.{answer_text, entered_text, event_text, fds_text, grown_text, info_text, invocation_text, made_text, notice_text, results_text, source_text, spaced_error, spaced_event, spaced_fd, target_text};
 ghost use Rattle.trace_text.specs.AnswerRoom.{answer_room, count_listed, shown_procedure};
 ghost use Rattle.trace_text.specs.Taken.{TakesAtMost};
 

@@ -1,7 +1,7 @@
 //! What every part of a line is made of. Each call adds to the end of a text, in room that was taken before: it takes no memory.
 
 ghost use Rattle.std.specs.Prelude.{◌≡◌, ◌≤◌, ◌+◌, ◌∷◌, ◌++◌, [], decimal, length};
-ghost use Rattle.script_line.specs.Words.{value_word};
+ghost use Rattle.line_forms.specs.Words.{value_word};
 ghost use Rattle.trace_text.specs.Taken.{TakesAtMost};
 
 use dk_base::list::Room;

@@ -1,14 +1,14 @@
 //! Data as lines show it.
 
 ghost use Rattle.std.specs.Prelude.{◌≡◌, ◌≤◌, ◌+◌, ◌*◌, [], ◌∷◌, ◌++◌, length};
-ghost use Rattle.script_text.specs.Strings.{quoted_byte, quoted_text};
+ghost use Rattle.line_text.specs.Strings.{quoted_byte, quoted_text};
 ghost use Rattle.work_ops.specs.Words.{digest_of, hex_byte};
-ghost use Rattle.script_requests.specs.Words.{data_text, digest_text};
+ghost use Rattle.spec_requests.specs.Words.{data_text, digest_text};
 ghost use Rattle.trace_text.specs.Taken.{TakesAtMost};
 
 use super::append::{push_counted, push_word};
 use dk_base::list::Room;
-use script_text::string::{hex_digit, is_printable};
+use line_text::string::{hex_digit, is_printable};
 use sha2::{Digest, Sha256};
 
 /// The longest data that is shown itself.

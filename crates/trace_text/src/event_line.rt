@@ -1,7 +1,7 @@
 //! Event lines. Want of memory may leave a part of what was to be added.
 
 ghost use Rattle.std.specs.Prelude.{◌≡◌, [], ◌∷◌, ◌++◌, OnOk};
-ghost use Rattle.script_requests.specs.Words.{line_of, lines_text};
+ghost use Rattle.spec_requests.specs.Words.{line_of, lines_text};
 
 use super::grown::{add_answer, add_line_end, add_number, add_spaced, add_what};
 use dk_base::error::NoMemory;
@@ -10,7 +10,7 @@ use dk_base::list::Room;
 use script_lang::script::Script;
 
 /// Adds the event's line, `NUMBER THREAD ROOT WHAT ANSWER`.
-#[tactic(auto, unfolding(script_requests::specs::TraceText::line_of))]
+#[tactic(auto, unfolding(spec_requests::specs::TraceText::line_of))]
 pub fn push_line(text: &mut Room<u8>, script: &Script, event: &Event) -> Result<(), NoMemory>
     ensures { OnOk result (text.new.items ≡ text.old.items ++ line_of script.now event.now) }
 {

@@ -1,8 +1,8 @@
 //! Texts that take room as they grow. Want of memory may leave a part of what was to be added.
 
 ghost use Rattle.std.specs.Prelude.{◌≡◌, ◌∷◌, ◌++◌, [], decimal, OnOk};
-ghost use Rattle.script_requests.specs.TraceNames.{procedure_name};
-ghost use Rattle.script_requests.specs.Words.{answer_text, what_word};
+ghost use Rattle.spec_requests.specs.TraceNames.{procedure_name};
+ghost use Rattle.spec_requests.specs.Words.{answer_text, what_word};
 
 use super::answer::{push_answer, reserve_answer};
 use super::append::{push_number, push_spaced};

@@ -1,14 +1,14 @@
 //! The last lines of traces. Want of memory may leave a part of what was to be added.
 
 ghost use Rattle.std.specs.Prelude.{◌≡◌, ◌++◌, Some, flat_map, OnOk};
-ghost use Rattle.script_requests.specs.Words.{end_line_of, ending_word, refused_line_of, spaced_name, tail_text, waiting_text};
+ghost use Rattle.spec_requests.specs.Words.{end_line_of, ending_word, refused_line_of, spaced_name, tail_text, waiting_text};
 
 use super::grown::{add_line_end, add_number, add_spaced, add_word};
 use dk_base::error::NoMemory;
 use dk_base::list::Room;
 use dk_base::number::Tid;
 use script_lang::script::Script;
-use script_requests::ending::Ending;
+use spec_requests::ending::Ending;
 
 fn push_names(text: &mut Room<u8>, script: &Script, threads: &[Tid]) -> Result<(), NoMemory>
     ensures { OnOk result (text.new.items ≡ text.old.items ++ flat_map (spaced_name script.now) threads.now) }
@@ -45,7 +45,7 @@ fn push_waiting(
 }
 
 /// Adds the end line of a run of `count` events. `waiting` are the threads that wait, of which a stalled run tells.
-#[tactic(auto, unfolding(script_requests::specs::TraceText::end_line_of))]
+#[tactic(auto, unfolding(spec_requests::specs::TraceText::end_line_of))]
 pub fn push_end_line(
     text: &mut Room<u8>,
     script: &Script,
@@ -63,7 +63,7 @@ pub fn push_end_line(
 }
 
 /// Adds the line that tells of a schedule's turn, counted from 1, that its thread could not take.
-#[tactic(auto, unfolding(script_requests::specs::TraceText::refused_line_of))]
+#[tactic(auto, unfolding(spec_requests::specs::TraceText::refused_line_of))]
 pub fn push_refused_line(
     text: &mut Room<u8>,
     script: &Script,

@@ -13,7 +13,7 @@ pub trait NamesProcedures {
 }
 
 impl NamesProcedures for Script {
-    ghost use Rattle.script_requests.specs.TraceNames.{procedure_name};
+    ghost use Rattle.spec_requests.specs.TraceNames.{procedure_name};
 
     ghost procedures = { λ script. procedure_name script };
 

@@ -1,8 +1,8 @@
 //! The text of a run, line by line as its events are told.
 
 ghost use Rattle.std.specs.Prelude.{◌≡◌, ◌∷◌, ◌++◌, [], List, IfOk, length};
-ghost use Rattle.script_requests.specs.Types.{Event as EventValue};
-ghost use Rattle.script_requests.specs.Words.{lines_text, refused_text, trace_text};
+ghost use Rattle.spec_requests.specs.Types.{Event as EventValue};
+ghost use Rattle.spec_requests.specs.Words.{lines_text, refused_text, trace_text};
 
 use super::event_line::push_whole_line;
 use super::grown::add_line_end;
@@ -12,7 +12,7 @@ use dk_base::event::Event;
 use dk_base::list::{Bytes, Room, TidList};
 use dk_base::number::Tid;
 use script_lang::script::Script;
-use script_requests::ending::Ending;
+use spec_requests::ending::Ending;
 use std::alloc::Global;
 use std::marker::Model;
 
@@ -52,7 +52,7 @@ impl RunText {
 
     /// The text of a run that ends after these events, `count` of them; `waiting` are the threads that wait at the end, of which a stalled
     /// run tells.
-    #[tactic(auto, unfolding(script_requests::specs::TraceText::trace_text))]
+    #[tactic(auto, unfolding(spec_requests::specs::TraceText::trace_text))]
     pub fn with_end(
         self,
         script: &Script,
@@ -69,7 +69,7 @@ impl RunText {
     }
 
     /// The text of a run that ends since a turn of its schedule, counted from 1, is refused: its thread could not take it.
-    #[tactic(auto, unfolding(script_requests::specs::TraceText::refused_text))]
+    #[tactic(auto, unfolding(spec_requests::specs::TraceText::refused_text))]
     pub fn with_refused_turn(
         self,
         script: &Script,

@@ -1,14 +1,14 @@
 //! The sets of a door's attributes, and of the events of a poll.
 
 ghost use Rattle.std.specs.Prelude.{◌≡◌, ◌≤◌, ◌+◌, if◌then◌else◌, ◌∷◌, ◌++◌, flat_map, length};
-ghost use Rattle.script_line.specs.Words.{attribute_flags, attribute_if, bits_of_flags, flag_word, poll_word as poll_spelling};
-ghost use Rattle.script_requests.specs.Words.{attributes_text, plus_joined_words};
+ghost use Rattle.line_forms.specs.Words.{attribute_flags, attribute_if, bits_of_flags, flag_word, poll_word as poll_spelling};
+ghost use Rattle.spec_requests.specs.Words.{attributes_text, plus_joined_words};
 ghost use Rattle.trace_text.specs.Taken.{TakesAtMost};
 
 use super::append::push_word;
 use dk_base::list::Room;
 use dk_base::set::{Attrs, PollSet};
-use script_line::sets::{ATTRIBUTES, attribute_word, poll_word};
+use line_forms::sets::{ATTRIBUTES, attribute_word, poll_word};
 
 /// With a `+` before it unless it is the first.
 fn push_joined(text: &mut Room<u8>, word: &str, first: bool)
@@ -50,7 +50,7 @@ fn push_set(text: &mut Room<u8>, set: u32)
 }
 
 /// Joined by `+`, or `none`.
-#[tactic(auto, using(script_line::proofs::FlagsOfSet::attribute_words_put))]
+#[tactic(auto, using(line_forms::proofs::FlagsOfSet::attribute_words_put))]
 pub fn push_attributes(text: &mut Room<u8>, attributes: Attrs)
     requires { 100 ≤ text.old.spare }
     ensures items { text.new.items ≡ text.old.items ++ attributes_text attributes }

@@ -1,7 +1,7 @@
 //! Lines and whole texts of traces.
 
 ghost use Rattle.std.specs.Prelude.{◌≡◌, ◌++◌, Some, IfOk, OnOk};
-ghost use Rattle.script_requests.specs.Words.{end_line_of, line_of, tail_text, trace_text};
+ghost use Rattle.spec_requests.specs.Words.{end_line_of, line_of, tail_text, trace_text};
 
 use super::event_line::{push_line, push_lines};
 use super::grown::add_line_end;
@@ -10,7 +10,7 @@ use dk_base::error::NoMemory;
 use dk_base::event::Event;
 use dk_base::list::{Bytes, Room, TidList};
 use script_lang::script::Script;
-use script_requests::ending::Ending;
+use spec_requests::ending::Ending;
 use std::alloc::Global;
 
 /// The line of an event, `NUMBER THREAD ROOT WHAT ANSWER`, without a line feed. A number that is no thread's or no
@@ -40,7 +40,7 @@ pub fn end_line(
 }
 
 /// Adds the line of each event and the end line.
-#[tactic(auto, unfolding(script_requests::specs::TraceText::trace_text))]
+#[tactic(auto, unfolding(spec_requests::specs::TraceText::trace_text))]
 fn push_run(
     text: &mut Room<u8>,
     script: &Script,

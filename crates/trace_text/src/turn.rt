@@ -1,5 +1,5 @@
 ghost use Rattle.std.specs.Prelude.{◌≡◌, option_map, option_copied, MatchOption};
-ghost use Rattle.script_requests.specs.Words.{NamesThread, second_word as second_word_of_line, thread_in_line as thread_of_line};
+ghost use Rattle.spec_requests.specs.Words.{NamesThread, second_word as second_word_of_line, thread_in_line as thread_of_line};
 
 use dk_base::number::Tid;
 use script_lang::script::Script;

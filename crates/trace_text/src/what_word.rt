@@ -1,7 +1,7 @@
 //! The word by which a line shows what an event is.
 
 ghost use Rattle.std.specs.Prelude.{◌≡◌, ◌≤◌, ◌++◌};
-ghost use Rattle.script_requests.specs.Words.{what_word};
+ghost use Rattle.spec_requests.specs.Words.{what_word};
 ghost use Rattle.trace_text.specs.Taken.{TakesAtMost};
 
 use super::append::push_word;

@@ -4,8 +4,8 @@ use Rattle.std.proofs.lemmas.Bool.Decides.{nat_tests}
 use Rattle.std.proofs.lemmas.List.{length-map, map-append}
 use Rattle.std.proofs.lemmas.List.Sums.{count_by-le-length, sum_by-append, sum_by-cons}
 use Rattle.std.specs.List.{list_any}
-use Rattle.kernel_records.specs.declared.record.Notice.{Notice}
-use Rattle.kernel_records.specs.Words.{is_notice_of}
+use Rattle.spec_records.specs.declared.record.Notice.{Notice}
+use Rattle.spec_records.specs.Words.{is_notice_of}
 use Rattle.unref_notice.specs.DoorCounts.{CountsDoors, door_in, notices_of}
 
 abbrev one_if : Bool → ℕ

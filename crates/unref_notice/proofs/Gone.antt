@@ -6,7 +6,7 @@ use Rattle.std.proofs.lemmas.List.Sums.{count_by-le-length, length-filter, sum_b
 use Rattle.std.specs.List.{list_any}
 use Rattle.dk_base.specs.declared.object.Obj.{Obj}
 use Rattle.dk_base.specs.declared.object.Obj.TheVariants as obj
-use Rattle.kernel_records.specs.Words.{count_object, is_object}
+use Rattle.spec_records.specs.Words.{count_object, is_object}
 use Rattle.unref_notice.specs.declared.key.Key.{Key}
 use Rattle.unref_notice.specs.declared.key.Key.TheVariants as key
 use Rattle.unref_notice.specs.Counting.{AreApart, IsStill, ObjectCounts, count_at, gone_among, is_pipe_end, is_touched, key_of, lost, object_of, same_key, went}

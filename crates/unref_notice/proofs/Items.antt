@@ -4,9 +4,9 @@ use Rattle.std.proofs.lemmas.Bool.Decides.{nat_tests}
 use Rattle.std.proofs.lemmas.Option.{slice_get-get_or}
 use Rattle.dk_base.specs.declared.object.Item.{Item}
 use Rattle.dk_base.specs.declared.object.Item.TheVariants as item
-use Rattle.kernel_records.specs.declared.record.Notice.{Notice}
-use Rattle.kernel_records.specs.declared.record.NoticeStage.TheVariants as stage
-use Rattle.kernel_records.specs.Words.{is_notice_entered_by, is_numbered, notice_number}
+use Rattle.spec_records.specs.declared.record.Notice.{Notice}
+use Rattle.spec_records.specs.declared.record.NoticeStage.TheVariants as stage
+use Rattle.spec_records.specs.Words.{is_notice_entered_by, is_numbered, notice_number}
 use Rattle.unref_notice.specs.Left.{IsAllEntered, is_notice_as, noticed_by}
 use Rattle.unref_notice.proofs.Places.{no_place}
 

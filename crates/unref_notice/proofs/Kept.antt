@@ -1,10 +1,10 @@
 -- Of notices that are all kept, one is over: it is taken out, or stays where it was.
 use Rattle.std.proofs.Common.{◌≡◌, ℕ, zero, suc, ◌<◌, ◌≤◌, Bool, true, false, List, [], ◌∷◌, Some, length, drop, filter, get_or, remove, set, cond, refl, sym, ap, ◌∙◌, arith, position}
 use Rattle.std.proofs.lemmas.List.Quantifiers.{position-Some}
-use Rattle.kernel_records.specs.declared.record.Door.{Door}
-use Rattle.kernel_records.specs.declared.record.Notice.{Notice}
-use Rattle.kernel_records.specs.Words.{NoticeList, change_first, is_kept_notice, kept_notices}
-use Rattle.kernel_records.proofs.Places.{changed_at}
+use Rattle.spec_records.specs.declared.record.Door.{Door}
+use Rattle.spec_records.specs.declared.record.Notice.{Notice}
+use Rattle.spec_records.specs.Words.{NoticeList, change_first, is_kept_notice, kept_notices}
+use Rattle.spec_records.proofs.Places.{changed_at}
 
 abbrev pub AreKept : (Notice → Bool) → List Notice → Type 0
 AreKept kept [] = Unit {0}

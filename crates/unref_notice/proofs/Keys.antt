@@ -3,7 +3,7 @@ use Rattle.std.proofs.Common.{◌≡◌, ℕ, ◌==◌, ◌||◌, Bool, true, fa
 use Rattle.std.proofs.lemmas.Bool.Decides.{nat_tests}
 use Rattle.dk_base.specs.declared.object.Obj.{Obj}
 use Rattle.dk_base.specs.declared.object.Obj.TheVariants as obj
-use Rattle.kernel_records.specs.Words.{is_object}
+use Rattle.spec_records.specs.Words.{is_object}
 use Rattle.unref_notice.specs.declared.key.Key.{Key}
 use Rattle.unref_notice.specs.declared.key.Key.TheVariants as key
 use Rattle.std.specs.Map.{lookup}

@@ -6,10 +6,10 @@ use Rattle.std.proofs.lemmas.List.Quantifiers.{position-Some}
 use Rattle.std.specs.List.{list_any}
 use Rattle.dk_base.specs.declared.object.Item.{Item}
 use Rattle.dk_base.specs.declared.object.Item.TheVariants as item
-use Rattle.kernel_records.specs.declared.record.Notice.{Notice}
-use Rattle.kernel_records.specs.declared.record.NoticeStage.{NoticeStage}
-use Rattle.kernel_records.specs.declared.record.NoticeStage.TheVariants as notice
-use Rattle.kernel_records.specs.Words.{IsAscending, Leaving, left_notice, left_notice_at, notice_number}
+use Rattle.spec_records.specs.declared.record.Notice.{Notice}
+use Rattle.spec_records.specs.declared.record.NoticeStage.{NoticeStage}
+use Rattle.spec_records.specs.declared.record.NoticeStage.TheVariants as notice
+use Rattle.spec_records.specs.Words.{IsAscending, Leaving, left_notice, left_notice_at, notice_number}
 use Rattle.unref_notice.specs.Left.{AreAllLeft, is_among, is_kept_among, is_notice_as, is_notice_item, left_among}
 use Rattle.unref_notice.proofs.Kept.{AreKept}
 use Rattle.unref_notice.proofs.Places.{all_kept, changed_one, none_before, only_place, removed_one, unchanged}

@@ -5,8 +5,8 @@ use Rattle.std.specs.List.Sorted.{IsPartitionPoint, IsPartitionedBy}
 use Rattle.std.proofs.lemmas.Bool.Decides.{nat_tests}
 use Rattle.std.proofs.lemmas.List.Quantifiers.{position-Some}
 use Rattle.std.proofs.lemmas.List.Sums.{position_or_len_is, fails_before_first}
-use Rattle.kernel_records.specs.Words.{IsAscending, is_numbered}
-use Rattle.kernel_records.proofs.NumberedLists.{ascending-lower}
+use Rattle.spec_records.specs.Words.{IsAscending, is_numbered}
+use Rattle.spec_records.proofs.NumberedLists.{ascending-lower}
 
 -- the first place at which a test passes
 

@@ -5,7 +5,7 @@ use Rattle.std.proofs.lemmas.Map.Made.{lookup-map_values}
 use Rattle.std.specs.Map.{lookup}
 use Rattle.indexmap.specs.IndexMap.{insert_entry}
 use Rattle.dk_base.specs.declared.object.Obj.{Obj}
-use Rattle.kernel_records.specs.Words.{is_object}
+use Rattle.spec_records.specs.Words.{is_object}
 use Rattle.unref_notice.specs.declared.key.Key.{Key}
 use Rattle.unref_notice.specs.declared.key.Key.TheVariants as key
 use Rattle.unref_notice.specs.declared.tally.Tally.{Tally}

@@ -1,7 +1,7 @@
 -- How many notices there are of each door.
 use Rattle.std.specs.Prelude.{ℕ, ◌≡◌, ◌==◌, List, count_by, nat_eq, unwrap_or}
 use Rattle.std.specs.Map.{lookup}
-use Rattle.kernel_records.specs.declared.record.Notice.{Notice}
+use Rattle.spec_records.specs.declared.record.Notice.{Notice}
 
 pub record DoorCountsValue : Type 0 where
   pub entries : List (ℕ × ℕ)

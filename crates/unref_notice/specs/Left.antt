@@ -4,9 +4,9 @@ use Rattle.std.specs.List.{list_any}
 use Rattle.dk_base.specs.declared.object.Item.{Item}
 use Rattle.dk_base.specs.declared.object.Item.TheVariants as item
 use Rattle.dk_base.specs.ByNumber.{at_number}
-use Rattle.kernel_records.specs.declared.record.Door.{Door}
-use Rattle.kernel_records.specs.declared.record.Notice.{Notice}
-use Rattle.kernel_records.specs.Words.{Leaving, has_many, is_notice_entered_by, left_notice}
+use Rattle.spec_records.specs.declared.record.Door.{Door}
+use Rattle.spec_records.specs.declared.record.Notice.{Notice}
+use Rattle.spec_records.specs.Words.{Leaving, has_many, is_notice_entered_by, left_notice}
 
 -- who leaves, and the doors that there are
 pub record ExitPath : Type 0 where

@@ -1,16 +1,16 @@
 //! Notices by their numbers, and how they go on to their next stage.
 ghost use Rattle.std.specs.Prelude.{◌≡◌, ℕ, ◌<◌, IfSome, find, get_or, map, position, set};
 ghost use Rattle.std.specs.VecDeque.{deque_capacity, deque_len};
-ghost use Rattle.kernel_records.specs.declared.record.Notice.{Notice};
-ghost use Rattle.kernel_records.specs.declared.record.NoticeStage.TheVariants as stage;
-ghost use Rattle.kernel_records.specs.Words.{IsAscending, change_first, is_given_notice_as, is_notice_entered_by, is_numbered, is_waiting_notice_as, notice_at, notice_number, tid};
+ghost use Rattle.spec_records.specs.declared.record.Notice.{Notice};
+ghost use Rattle.spec_records.specs.declared.record.NoticeStage.TheVariants as stage;
+ghost use Rattle.spec_records.specs.Words.{IsAscending, change_first, is_given_notice_as, is_notice_entered_by, is_numbered, is_waiting_notice_as, notice_at, notice_number, tid};
 ghost use Rattle.unref_notice.specs.DoorCounts.{door_in};
 ghost use Rattle.unref_notice.specs.Left.{IsAllEntered, is_notice_as, noticed_by};
 
 use crate::stage::{is_entered_by, is_given_to, is_waiting};
 use dk_base::number::Tid;
 use dk_base::object::Item;
-use kernel_records::record::{Notice, NoticeStage};
+use spec_records::record::{Notice, NoticeStage};
 use std::collections::VecDeque;
 
 fn move_on(notice: &mut Notice, stage: NoticeStage)

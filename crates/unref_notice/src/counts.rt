@@ -6,7 +6,7 @@ ghost use Rattle.std.specs.Map.{lookup};
 ghost use Rattle.std.specs.Ordering.{nat_cmp};
 ghost use Rattle.dk_base.specs.declared.object.Obj.{Obj};
 ghost use Rattle.indexmap.specs.IndexMap.{KeepsRoom, spare};
-ghost use Rattle.kernel_records.specs.Words.{count_object, is_object};
+ghost use Rattle.spec_records.specs.Words.{count_object, is_object};
 ghost use Rattle.unref_notice.specs.declared.counts.TheConstants.{STEP_MAX};
 ghost use Rattle.unref_notice.specs.declared.key.Key.{Key};
 ghost use Rattle.unref_notice.specs.Counting.{AreMarked, IsStill, count_at, counts_in, fallen_among, fallen_of, gone_among, is_pipe_end, is_touched, same_key, tally_at, went};

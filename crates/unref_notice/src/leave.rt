@@ -1,9 +1,9 @@
 //! What becomes of notices where server threads end and doors become invalid, and which are kept.
 ghost use Rattle.std.specs.Prelude.{◌≡◌, ◌≤◌, ℕ, [], ◌∷◌, Bool, List, filter, map};
 ghost use Rattle.std.specs.VecDeque.{deque_capacity, deque_len};
-ghost use Rattle.kernel_records.specs.declared.record.Door.{Door};
-ghost use Rattle.kernel_records.specs.declared.record.NoticeStage.TheVariants as notice;
-ghost use Rattle.kernel_records.specs.Words.{AnswersAs, IsAscending, Leaving, is_kept_notice, left_notice, notice_number};
+ghost use Rattle.spec_records.specs.declared.record.Door.{Door};
+ghost use Rattle.spec_records.specs.declared.record.NoticeStage.TheVariants as notice;
+ghost use Rattle.spec_records.specs.Words.{AnswersAs, IsAscending, Leaving, is_kept_notice, left_notice, notice_number};
 ghost use Rattle.unref_notice.specs.DoorCounts.{CountsDoors, door_in};
 ghost use Rattle.unref_notice.specs.Left.{is_kept_among, left_among, takes_many_in};
 
@@ -11,7 +11,7 @@ use crate::change::place_of_item;
 use crate::door_counts::DoorCounts;
 use crate::stage::is_past;
 use dk_base::object::Item;
-use kernel_records::record::{Notice, NoticeStage};
+use spec_records::record::{Notice, NoticeStage};
 use std::collections::VecDeque;
 
 /// What a test answers of a number.

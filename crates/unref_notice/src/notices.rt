@@ -1,8 +1,8 @@
 //! The notices of a kernel, in the order in which they were made.
 ghost use Rattle.std.specs.Prelude.{◌≡◌, ◌+◌, ◌<◌, ◌≤◌, ◌++◌, List, [], OnOk, find, get_or, length};
-ghost use Rattle.kernel_records.specs.declared.record.Door.{Door};
-ghost use Rattle.kernel_records.specs.declared.record.Notice.{Notice};
-ghost use Rattle.kernel_records.specs.Words.{AnswersAs, end_notice, enter_notice, give_notice, has_notice, is_given_notice_as, kept_notices, left_notices, make_notice};
+ghost use Rattle.spec_records.specs.declared.record.Door.{Door};
+ghost use Rattle.spec_records.specs.declared.record.Notice.{Notice};
+ghost use Rattle.spec_records.specs.Words.{AnswersAs, end_notice, enter_notice, give_notice, has_notice, is_given_notice_as, kept_notices, left_notices, make_notice};
 ghost use Rattle.unref_notice.specs.Left.{AreAllLeft, ExitPath, IsAllEntered, takes_many_in};
 ghost use Rattle.unref_notice.specs.declared.notices.TheConstants.{NOTICES_MAX};
 
@@ -12,7 +12,7 @@ use crate::leave::{holds, keep, leave_all};
 use dk_base::error::NoMemory;
 use dk_base::number::Tid;
 use dk_base::object::Item;
-use kernel_records::record::{Notice, NoticeStage};
+use spec_records::record::{Notice, NoticeStage};
 use std::alloc::Global;
 use std::collections::VecDeque;
 use std::marker::Model;
@@ -34,7 +34,7 @@ pub struct Notices {
 impl Model for Notices {
     ghost use Rattle.std.specs.Prelude.{◌-◌, map, min};
     ghost use Rattle.std.specs.VecDeque.{deque_len, deque_capacity};
-    ghost use Rattle.kernel_records.specs.Words.{IsAscending, notice_number};
+    ghost use Rattle.spec_records.specs.Words.{IsAscending, notice_number};
     ghost use Rattle.unref_notice.specs.DoorCounts.{CountsDoors, door_in};
     ghost use Rattle.unref_notice.specs.Words.{NoticesValue};
 

@@ -1,9 +1,9 @@
 //! Where a notice stands, and which thread has it.
 ghost use Rattle.std.specs.Prelude.{◌≡◌};
-ghost use Rattle.kernel_records.specs.Words.{is_entered_stage, is_given_stage, is_past_stage, is_waiting_stage};
+ghost use Rattle.spec_records.specs.Words.{is_entered_stage, is_given_stage, is_past_stage, is_waiting_stage};
 
 use dk_base::number::Tid;
-use kernel_records::record::NoticeStage;
+use spec_records::record::NoticeStage;
 
 pub fn is_waiting(stage: NoticeStage) -> bool
     ensures { result ≡ is_waiting_stage stage }

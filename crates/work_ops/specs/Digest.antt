@@ -1,7 +1,7 @@
 -- The digest of bytes as text: their SHA-256 in lower case hexadecimal.
 use Rattle.std.specs.Prelude.{ℕ, ◌/◌, ◌%◌, List, [], ◌∷◌, flat_map}
 use Rattle.sha2.specs.Sha256.{sha256}
-use Rattle.script_text.specs.Words.{hex_digit}
+use Rattle.line_text.specs.Words.{hex_digit}
 
 -- a byte in two digits
 abbrev pub hex_byte : ℕ → List ℕ

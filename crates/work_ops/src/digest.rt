@@ -4,7 +4,7 @@ ghost use Rattle.work_ops.specs.Words.{digest_of, hex_byte};
 
 use dk_base::error::NoMemory;
 use dk_base::list::{Bytes, Room};
-use script_text::string::hex_digit;
+use line_text::string::hex_digit;
 use sha2::{Digest, Sha256};
 use std::alloc::Global;
 

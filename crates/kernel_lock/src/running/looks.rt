@@ -1,14 +1,14 @@
 //! What a look under the lock found, for the time after it. By such values a driver goes on, waits and leaves; only the methods of
 //! what lies under the lock make them.
 ghost use Rattle.std.specs.Prelude.{◌≡◌, true, false, None};
-ghost use Rattle.written_kernel.specs.Words.{is_runnable};
+ghost use Rattle.spec_kernel.specs.Words.{is_runnable};
 ghost use Rattle.sys_run.specs.Sys.{state_of_run};
 ghost use Rattle.kernel_lock.specs.Ends.{first_runnable_of, has_ended, is_member};
 
 use dk_base::number::Tid;
 use dk_base::outside::Gate;
-use shared_run::asked::SharedRun;
 use std::snapshot::Snapshot;
+use sys_run::asked::SharedRun;
 
 /// A run that went on. It serves for one pass of the gate.
 #[derive(Drop)]

@@ -2,15 +2,15 @@
 ghost use Rattle.std.specs.Prelude.{◌≡◌, ℕ, ◌+◌, ◌<◌, ◌≤◌, ◌^◌, ◌∷◌, List, false, true, find, length, is_some, IfNone, IsSome, OnSome, Some};
 ghost use Rattle.dk_base.specs.declared.object.Item.TheVariants as item;
 ghost use Rattle.dk_base.specs.declared.limits.TheConstants.{PASS_MAX, QUEUE_MAX};
-ghost use Rattle.kernel_records.specs.declared.record.ThreadState.TheVariants as is;
-ghost use Rattle.kernel_records.specs.Words.{collect_call, end_invocation, end_notice, enter_call, enter_notice, enter_thread, fail_call, is_client_call_of, is_given_as, is_given_notice_as, is_to_collect_as, kept_notices, live_calls, make_notice, open_call, park_thread, return_call, set_thread_state, unbind_thread};
+ghost use Rattle.spec_records.specs.declared.record.ThreadState.TheVariants as is;
+ghost use Rattle.spec_records.specs.Words.{collect_call, end_invocation, end_notice, enter_call, enter_notice, enter_thread, fail_call, is_client_call_of, is_given_as, is_given_notice_as, is_to_collect_as, kept_notices, live_calls, make_notice, open_call, park_thread, return_call, set_thread_state, unbind_thread};
 ghost use Rattle.call_tree.specs.Calls.{args_in};
 ghost use Rattle.call_tree.specs.Words.{outcome_in, queued_call};
-ghost use Rattle.written_kernel.specs.Types.{Pool};
-ghost use Rattle.written_kernel.specs.Words.{bound_of, calls_waiting, has_invalid_door, is_running, is_valid, now, pool_of, state_of};
-ghost use Rattle.pool_agreement.specs.Words.{own_pool};
+ghost use Rattle.spec_kernel.specs.Types.{Pool};
+ghost use Rattle.spec_kernel.specs.Words.{bound_of, calls_waiting, has_invalid_door, is_running, is_valid, now, pool_of, state_of};
+ghost use Rattle.law_pools.specs.Words.{own_pool};
 ghost use Rattle.kernel_holdings.specs.Words.{results_in};
-ghost use Rattle.thread_set.specs.declared.set.ThreadSet.{ThreadSet};
+ghost use Rattle.dk_base.specs.declared.thread_set.ThreadSet.{ThreadSet};
 ghost use Rattle.kernel_store.specs.Frames.{CanAct, CanSettle, FillsNoPool, FillsNoQueue, FillsOnePool, IsInEvent, KeepsPools, serves_any};
 ghost use Rattle.kernel_store.specs.Held.{AreHeld};
 ghost use Rattle.kernel_store.specs.Stored.{AreThere, CanMake, HasRoomForReferences, stored_state};
@@ -22,8 +22,8 @@ use call_tree::parts::{Args, Outcome};
 use dk_base::list::{Bytes, ObjList};
 use dk_base::number::Tid;
 use dk_base::object::Item;
-use kernel_records::pool::Waiting;
-use kernel_records::record::{Notice, ThreadState};
+use spec_records::pool::Waiting;
+use spec_records::record::{Notice, ThreadState};
 
 impl Store {
     // calls

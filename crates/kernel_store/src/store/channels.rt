@@ -2,9 +2,9 @@
 ghost use Rattle.std.specs.Prelude.{◌≡◌, ◌+◌, ◌<◌, ◌≤◌, ◌++◌, ◌^◌, [], length, min, None, Some, IsOk, OnOk, true, is_some};
 ghost use Rattle.dk_base.specs.declared.answer.Answer.TheVariants.{NewFd, TwoFds};
 ghost use Rattle.dk_base.specs.declared.limits.TheConstants.{EVENTS_MAX, PIPE_MAX, USER_EVENTS_MAX};
-ghost use Rattle.kernel_records.specs.Words.{alert_port, alert_tests, events_found, first_found, first_refusal, fitting, free_rows, get_tests, getn_tests, is_ready_for, lowest_free, number_in, oldest, read_pipe, read_tests, records_of, send_error, send_event, send_if_allowed, send_tests, user_events, write_pipe, write_tests};
-ghost use Rattle.written_kernel.specs.Types.{Pool};
-ghost use Rattle.written_kernel.specs.Words.{associated, association_of_key, create_port, dissociated, has_port_references, held_in, pipe, port, readers_of, table_of, take_found, with_channels, with_pipes, with_ports, writers_of};
+ghost use Rattle.spec_records.specs.Words.{alert_port, alert_tests, events_found, first_found, first_refusal, fitting, free_rows, get_tests, getn_tests, is_ready_for, lowest_free, number_in, oldest, read_pipe, read_tests, records_of, send_error, send_event, send_if_allowed, send_tests, user_events, write_pipe, write_tests};
+ghost use Rattle.spec_kernel.specs.Types.{Pool};
+ghost use Rattle.spec_kernel.specs.Words.{associated, association_of_key, create_port, dissociated, has_port_references, held_in, pipe, port, readers_of, table_of, take_found, with_channels, with_pipes, with_ports, writers_of};
 ghost use Rattle.event_port.specs.Words.{KeepsRoom};
 ghost use Rattle.kernel_store.specs.Channels.{HasRoomForEvents, HasRoomForPipe, HasRoomForPort, HasRoomToAssociate, KeepsRoomForEvents, KeepsRoomForEventsButOne};
 ghost use Rattle.kernel_store.specs.Frames.{KeepsPools};
@@ -18,8 +18,8 @@ use dk_base::number::{Fd, Pid};
 use dk_base::object::{EventRec, Obj};
 use dk_base::request::AlertMode;
 use dk_base::set::PollSet;
-use kernel_records::association::AssocKey;
-use kernel_records::port::Queued;
+use spec_records::association::AssocKey;
+use spec_records::port::Queued;
 use std::alloc::Global;
 
 impl Store {

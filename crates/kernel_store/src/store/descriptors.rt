@@ -3,9 +3,9 @@ ghost use Rattle.std.specs.Prelude.{◌≡◌, ◌+◌, ◌<◌, ◌≤◌, ◌+
 ghost use Rattle.dk_base.specs.declared.limits.TheConstants.{DESCRIPTORS_MAX, EVENTS_MAX};
 ghost use Rattle.dk_base.specs.declared.object.Obj.TheVariants as obj;
 ghost use Rattle.name_space.specs.Words.{HasRoomForName};
-ghost use Rattle.written_kernel.specs.Types.{Pool};
-ghost use Rattle.kernel_records.specs.Words.{close_row, descriptor, first_refusal, free_place, has_double_release, has_told_attributes, insert_row, lowest_free, new_descriptors, objects_passed, revoke_door, revoke_tests, set_param, set_param_tests, with_door, with_name, without_name};
-ghost use Rattle.written_kernel.specs.Words.{door_of, has_room, name_of, object_at, table_of, tables_after_pass, tables_with, with_table_of};
+ghost use Rattle.spec_kernel.specs.Types.{Pool};
+ghost use Rattle.spec_records.specs.Words.{close_row, descriptor, first_refusal, free_place, has_double_release, has_told_attributes, insert_row, lowest_free, new_descriptors, objects_passed, revoke_door, revoke_tests, set_param, set_param_tests, with_door, with_name, without_name};
+ghost use Rattle.spec_kernel.specs.Words.{door_of, has_room, name_of, object_at, table_of, tables_after_pass, tables_with, with_table_of};
 ghost use Rattle.kernel_store.specs.Frames.{FillsNoPool, IsRoomFor, KeepsPools};
 ghost use Rattle.kernel_store.specs.Stored.{ArePlaced, AreThere, CanHold, HasRoom, HasRoomForDoor, HasRoomForReferences, stored_state};
 
@@ -17,7 +17,7 @@ use dk_base::number::{Fd, PathId, Pid};
 use dk_base::object::Obj;
 use dk_base::request::Param;
 use dk_base::set::Attrs;
-use kernel_records::pool::Pool;
+use spec_records::pool::Pool;
 
 impl Store {
     // descriptors and names

@@ -1,9 +1,9 @@
 //! Child processes: their making, and how they begin (fork(2)).
 ghost use Rattle.std.specs.Prelude.{◌≡◌, ◌<◌, ◌≤◌, ℕ, [], length, IfOk, OnErr, OnOk};
 ghost use Rattle.dk_base.specs.declared.limits.TheConstants.{DESCRIPTORS_MAX};
-ghost use Rattle.kernel_records.specs.Words.{begin_process, objects_of, with_table};
-ghost use Rattle.written_kernel.specs.Words.{forget, fork, table_of, with_child};
-ghost use Rattle.written_kernel.specs.Leaving.{bindings_after_fork};
+ghost use Rattle.spec_records.specs.Words.{begin_process, objects_of, with_table};
+ghost use Rattle.spec_kernel.specs.Words.{forget, fork, table_of, with_child};
+ghost use Rattle.spec_kernel.specs.Leaving.{bindings_after_fork};
 ghost use Rattle.kernel_store.specs.Forking.{AreDormant, HasSamePools, MayBegin};
 ghost use Rattle.kernel_store.specs.Frames.{CanLeave, FillsNoPool, FillsNoQueue, IsAtRest, KeepsForNotices, KeepsPools, ParksAgain};
 ghost use Rattle.kernel_store.specs.Stored.{stored_state};
@@ -16,10 +16,10 @@ use dk_base::limits::DESCRIPTORS_MAX;
 use dk_base::list::Room;
 use dk_base::number::{Pid, Tid};
 use dk_base::object::Obj;
+use dk_base::thread_set::ThreadSet;
 use fork_step::forking::fork_binding;
-use kernel_records::leaving::Leaver;
+use spec_records::leaving::Leaver;
 use std::alloc::Global;
-use thread_set::set::ThreadSet;
 
 impl Store {
     /// A process is a child of another, and has not begun.

@@ -2,11 +2,11 @@
 //! pools and threads are looked at that the act touched.
 ghost use Rattle.std.specs.Prelude.{◌≡◌, ℕ, ◌||◌, Bool, drop, length, true, false, is_some};
 ghost use Rattle.std.specs.Option.{option_map};
-ghost use Rattle.written_kernel.specs.Types.{Pool};
-ghost use Rattle.written_kernel.specs.Words.{State, fail_returns, give, give_and_start, has_first_common_door, has_lost_door, start_one};
+ghost use Rattle.spec_kernel.specs.Types.{Pool};
+ghost use Rattle.spec_kernel.specs.Words.{State, fail_returns, give, give_and_start, has_first_common_door, has_lost_door, start_one};
 ghost use Rattle.server_pool.specs.Words.{pick_of, stack_in};
-ghost use Rattle.thread_set.specs.Words.{has};
-ghost use Rattle.pool_agreement.specs.Words.{IsGivenOut, IsGivenOutIn, is_this};
+ghost use Rattle.dk_base.specs.Words.{has};
+ghost use Rattle.law_pools.specs.Words.{IsGivenOut, IsGivenOutIn, is_this};
 ghost use Rattle.kernel_store.specs.Failing.{FailsOn, IsFailing, LosesNoneIn};
 ghost use Rattle.kernel_store.specs.Giving.{GivesOn, HasGiven, IsServed, IsTold, start_meant};
 ghost use Rattle.kernel_store.specs.Frames.{CanSettle, IsAtRest, IsGivenOutToOthers, LoseDoorsIn, NothingAfter, serves_any};
@@ -17,9 +17,9 @@ use crate::starting::{last_given, other_than};
 use crate::store::Store;
 use dk_base::number::{Pid, Tid};
 use dk_base::object::Item;
-use kernel_records::pool::Pool;
-use kernel_records::record::ThreadState;
-use thread_set::set::ThreadSet;
+use dk_base::thread_set::ThreadSet;
+use spec_records::pool::Pool;
+use spec_records::record::ThreadState;
 
 impl Store {
     // idle threads that lost their doors

@@ -2,10 +2,10 @@
 ghost use Rattle.std.specs.Prelude.{◌≡◌, ◌||◌, ℕ, ◌+◌, ◌<◌, ◌≤◌, ◌++◌, ◌∷◌, [], Bool, List, filter, length, true, IfOk, OnOk, OnErr};
 ghost use Rattle.dk_base.specs.declared.limits.TheConstants.{DESCRIPTORS_MAX, PROCESSES_MAX, THREADS_MAX, EVENTS_MAX};
 ghost use Rattle.dk_base.specs.declared.object.Obj.{Obj};
-ghost use Rattle.written_kernel.specs.Types.{Pool};
-ghost use Rattle.kernel_records.specs.declared.pool.Pool.TheVariants as pool;
-ghost use Rattle.kernel_records.specs.Words.{empty_table, new_process, notice_doors, pid};
-ghost use Rattle.written_kernel.specs.Words.{is_live_process, is_unborn_process, with_event_counted, with_new_process, with_new_thread};
+ghost use Rattle.spec_kernel.specs.Types.{Pool};
+ghost use Rattle.spec_records.specs.declared.pool.Pool.TheVariants as pool;
+ghost use Rattle.spec_records.specs.Words.{empty_table, new_process, notice_doors, pid};
+ghost use Rattle.spec_kernel.specs.Words.{is_live_process, is_unborn_process, with_event_counted, with_new_process, with_new_thread};
 ghost use Rattle.server_pool.specs.Words.{empty_pool};
 ghost use Rattle.unref_notice.specs.Words.{was_shared};
 ghost use Rattle.unref_notice.specs.declared.counts.TheConstants.{STEP_MAX};
@@ -21,9 +21,9 @@ use dk_base::error::NoMemory;
 use dk_base::list::Room;
 use dk_base::number::{Pid, Tid};
 use kernel_holdings::holdings::Holdings;
-use kernel_records::pool::Pool;
 use proc_table::procs::Procs;
 use server_pool::pools::Pools;
+use spec_records::pool::Pool;
 use std::alloc::Global;
 use unref_notice::counts::STEP_MAX;
 

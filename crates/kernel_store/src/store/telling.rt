@@ -1,23 +1,23 @@
 //! What ports are told once all else that follows an act is done: associations end by the rows that it closed, the timers of a process that
 //! ended with it, and those associations fire that watch what it changed.
 ghost use Rattle.std.specs.Prelude.{◌≡◌, ◌+◌, ◌<◌, ◌≤◌, ◌^◌, [], ℕ, Option, length};
-ghost use Rattle.act_changes.specs.Ended.{empty_rows, ended_by, timers_ended};
-ghost use Rattle.associated_ports.specs.Words.{HasRoomToEnd};
+ghost use Rattle.law_channels.specs.Ended.{empty_rows, ended_by, timers_ended};
+ghost use Rattle.kernel_ports.specs.Words.{HasRoomToEnd};
 ghost use Rattle.kernel_store.specs.Frames.{KeepsPools};
 ghost use Rattle.kernel_store.specs.Stored.{stored_state};
 ghost use Rattle.kernel_store.specs.Telling.{AreGone, AreNamed, HasOpened, IsLeftToTell, IsOfPipe, closing_of};
 ghost use Rattle.unref_notice.specs.declared.counts.TheConstants.{STEP_MAX};
-ghost use Rattle.written_kernel.specs.Types.{Request};
-ghost use Rattle.written_kernel.specs.Words.{State, associations_in, fire, tell, timers_in, with_channels};
+ghost use Rattle.spec_kernel.specs.Types.{Request};
+ghost use Rattle.spec_kernel.specs.Words.{State, associations_in, fire, tell, timers_in, with_channels};
 
 use crate::ports::note_told;
 use crate::store::Store;
 use crate::telling::{end_closed, end_timers};
 use crate::told::{ClosedRows, TellingRooms};
-use associated_ports::ending::Ending;
 use dk_base::list::Room;
 use dk_base::object::Obj;
-use port_telling::changed::{Changed, Ends};
+use kernel_ports::changed::{Changed, Ends};
+use kernel_ports::ending::Ending;
 
 impl Store {
     /// How many associations there are.

@@ -1,9 +1,9 @@
 //! Threads: what they wait for, the doors that they are bound to, and how they and their processes end.
 ghost use Rattle.std.specs.Prelude.{◌≡◌, ◌+◌, ◌≤◌, false, true, is_some, IfOk, OnErr, OnOk};
-ghost use Rattle.call_agreement.specs.Words.{is_calling};
-ghost use Rattle.kernel_invariant.specs.Core.{is_outside};
-ghost use Rattle.kernel_records.specs.Words.{bind_thread, close_table, end_owner, end_process, leaving_of, unbind_thread, with_table};
-ghost use Rattle.written_kernel.specs.Words.{bound_of, forget, is_running, leave, state_of, table_of, with_state};
+ghost use Rattle.law_calls.specs.Words.{is_calling};
+ghost use Rattle.law_states.specs.Core.{is_outside};
+ghost use Rattle.spec_records.specs.Words.{bind_thread, close_table, end_owner, end_process, leaving_of, unbind_thread, with_table};
+ghost use Rattle.spec_kernel.specs.Words.{bound_of, forget, is_running, leave, state_of, table_of, with_state};
 ghost use Rattle.dk_base.specs.declared.limits.TheConstants.{DESCRIPTORS_MAX};
 ghost use Rattle.kernel_holdings.specs.Words.{TRANSIT_MAX};
 ghost use Rattle.kernel_store.specs.Forking.{KeepsDormant};
@@ -18,10 +18,10 @@ use crate::store::Store;
 use dk_base::error::NoMemory;
 use dk_base::list::DoorList;
 use dk_base::number::{Pid, Tid};
-use kernel_records::leaving::Leaver;
-use kernel_records::record::ThreadState;
+use dk_base::thread_set::ThreadSet;
+use spec_records::leaving::Leaver;
+use spec_records::record::ThreadState;
 use std::alloc::Global;
-use thread_set::set::ThreadSet;
 
 impl Store {
     /// A thread turns to another state. In both it takes turns or waits, but for no item and for no call.

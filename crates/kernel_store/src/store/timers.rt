@@ -2,9 +2,9 @@
 ghost use Rattle.std.specs.Prelude.{◌≡◌, ◌≤◌, ◌<◌, ◌^◌, [], None, OnOk, length};
 ghost use Rattle.dk_base.specs.declared.answer.Answer.TheVariants.{Count};
 ghost use Rattle.dk_base.specs.declared.limits.TheConstants.{ADVANCE_MAX, CLOCK_MAX, DELAY_MAX, EVENTS_MAX};
-ghost use Rattle.kernel_records.specs.Words.{create_timer_error, dues, free_id, timer_error};
-ghost use Rattle.written_kernel.specs.Types.{Pool};
-ghost use Rattle.written_kernel.specs.Words.{clock_advanced, timer_created, timer_deleted, timer_set, timers_in, with_channels};
+ghost use Rattle.spec_records.specs.Words.{create_timer_error, dues, free_id, timer_error};
+ghost use Rattle.spec_kernel.specs.Types.{Pool};
+ghost use Rattle.spec_kernel.specs.Words.{clock_advanced, timer_created, timer_deleted, timer_set, timers_in, with_channels};
 ghost use Rattle.kernel_store.specs.Channels.{HasRoomForTimer};
 ghost use Rattle.kernel_store.specs.Frames.{KeepsPools};
 ghost use Rattle.kernel_store.specs.Stored.{HasRoom, HasRoomForNotices, stored_state};
@@ -14,7 +14,7 @@ use crate::store::Store;
 use dk_base::error::{Errno, NoMemory};
 use dk_base::list::Room;
 use dk_base::number::Pid;
-use kernel_records::timer::Due;
+use spec_records::timer::Due;
 
 impl Store {
     /// The clock of the timers.

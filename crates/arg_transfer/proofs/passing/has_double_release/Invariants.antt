@@ -1,5 +1,5 @@
 use Rattle.std.proofs.Common.{◌≡◌, drop}
-use Rattle.kernel_records.specs.Words.{has_double_release}
+use Rattle.spec_records.specs.Words.{has_double_release}
 use Rattle.arg_transfer.proofs.passing.has_double_release.Given as goal
 
 abbrev pub invariant-loop-place : goal.invariant-loop-place

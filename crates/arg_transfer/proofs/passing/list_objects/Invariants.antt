@@ -1,5 +1,5 @@
 use Rattle.std.proofs.Common.{◌≡◌, ◌+◌, ◌≤◌, ◌++◌, drop}
-use Rattle.kernel_records.specs.Words.{objects_passed}
+use Rattle.spec_records.specs.Words.{objects_passed}
 use Rattle.arg_transfer.proofs.passing.list_objects.Given as goal
 
 abbrev pub invariant-loop-passed : goal.invariant-loop-passed

@@ -1,5 +1,5 @@
 use Rattle.std.proofs.Common.{◌≡◌, drop}
-use Rattle.kernel_records.specs.Words.{release_rows}
+use Rattle.spec_records.specs.Words.{release_rows}
 use Rattle.arg_transfer.proofs.passing.release_each.Given as goal
 
 abbrev pub invariant-loop-passed : goal.invariant-loop-passed

@@ -1,8 +1,8 @@
 use Rattle.std.proofs.Common.{◌≡◌, false, is_some, Option, None, Some, ap, refl, rules, sym, ◌∙◌}
 use Rattle.std.proofs.lemmas.Bool.{cond-true}
 use Rattle.dk_base.specs.declared.object.Obj.{Obj}
-use Rattle.kernel_records.specs.Words.{close_row}
-use Rattle.kernel_records.proofs.Passing.{close_row-unnamed}
+use Rattle.spec_records.specs.Words.{close_row}
+use Rattle.spec_records.proofs.Passing.{close_row-unnamed}
 use Rattle.arg_transfer.proofs.passing.release_row.Goals as goal
 use Rattle.arg_transfer.proofs.passing.release_row.Goals.{else-passed-via-then-passed+else-is_some, else-passed-via-else-passed}
 

@@ -1,5 +1,5 @@
 use Rattle.std.proofs.Common.{◌≡◌, ℕ, zero, suc, replicate, refl}
-use Rattle.shuttle_tokens.specs.Words.{at}
+use Rattle.call_tree.specs.Words.{at}
 use Rattle.call_tree.proofs.index.zeros.Goals as goal
 
 zeros_at : (n t : ℕ) → at (replicate n 0) t ≡ 0

@@ -1,5 +1,5 @@
 use Rattle.std.proofs.Common.{ap, refl, sym, ◌∙◌}
-use Rattle.kernel_records.specs.Words.{interruption}
+use Rattle.spec_records.specs.Words.{interruption}
 use Rattle.call_tree.specs.Calls.{dropped_at}
 use Rattle.call_tree.specs.Index.{is_open}
 use Rattle.call_tree.specs.declared.parts.Leave.TheVariants.{Interrupted}

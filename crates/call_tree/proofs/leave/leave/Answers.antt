@@ -1,5 +1,5 @@
 use Rattle.std.proofs.Common.{arith, ap, ◌∙◌}
-use Rattle.call_records.specs.Words.{calls_in}
+use Rattle.call_tree.specs.Words.{calls_in}
 use Rattle.call_tree.proofs.Keys.{key_call}
 use Rattle.call_tree.proofs.Leaving.{ended_calls, interrupted_calls}
 use Rattle.call_tree.proofs.leave.leave.Goals as goal

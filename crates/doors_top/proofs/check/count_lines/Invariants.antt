@@ -1,5 +1,5 @@
 use Rattle.std.proofs.Common.{◌≡◌, ◌+◌, length}
-use Rattle.script_text.specs.Words.{lines_of}
+use Rattle.line_text.specs.Words.{lines_of}
 use Rattle.doors_top.proofs.check.count_lines.Given as goal
 
 abbrev pub invariant-loop-others : goal.invariant-loop-others

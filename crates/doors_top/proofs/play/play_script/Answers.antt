@@ -1,6 +1,6 @@
 use Rattle.std.proofs.Common.{◌≡◌, IfOk, ap, subst}
 use Rattle.sys_run.specs.Words.{SysValue}
-use Rattle.written_script.specs.Words.{refusal}
+use Rattle.spec_scripts.specs.Words.{refusal}
 use Rattle.doors_top.specs.Outcomes.{outcome_of_turns}
 use Rattle.doors_top.specs.Top.{LawsOfScript}
 use Rattle.doors_top.proofs.play.play_script.Goals as goal

@@ -1,5 +1,5 @@
 use Rattle.std.proofs.Common.{◌≡◌, ◌-◌, length}
-use Rattle.script_requests.specs.Words.{lines_text}
+use Rattle.spec_requests.specs.Words.{lines_text}
 use Rattle.doors_top.proofs.play.take_turns.Given as goal
 
 abbrev pub invariant-loop-text : goal.invariant-loop-text

@@ -1,6 +1,6 @@
 use Rattle.std.proofs.Common.{le_refl, le_trans, sym, ap, ◌∙◌, subst, arith}
 use Rattle.proc_table.specs.Words.{Walks}
-use Rattle.thread_set.specs.Words.{has}
+use Rattle.dk_base.specs.Words.{has}
 use Rattle.exit_paths.specs.Words.{HaveEnded}
 use Rattle.exit_paths.proofs.CallsSoFar.{none_ended}
 use Rattle.exit_paths.proofs.Walked.{all_walked_ended, walked_ended}

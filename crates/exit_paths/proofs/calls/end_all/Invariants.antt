@@ -1,10 +1,10 @@
 use Rattle.std.proofs.Common.{◌≡◌, ℕ, ◌-◌, ◌≤◌, Bool, false, List}
 use Rattle.dk_base.specs.declared.limits.TheConstants.{THREADS_MAX}
-use Rattle.kernel_records.specs.Words.{CallTree}
-use Rattle.written_kernel.specs.Types.{Call}
+use Rattle.spec_records.specs.Words.{CallTree}
+use Rattle.spec_kernel.specs.Types.{Call}
 use Rattle.call_tree.specs.Words.{AreSound, calls_so_far}
 use Rattle.proc_table.specs.Words.{Walks}
-use Rattle.thread_set.specs.Words.{has}
+use Rattle.dk_base.specs.Words.{has}
 use Rattle.exit_paths.specs.Words.{DropsTransit, HaveEnded, all_left, in_transit}
 use Rattle.exit_paths.proofs.calls.end_all.Given as goal
 

@@ -1,5 +1,5 @@
 use Rattle.std.proofs.Common.{find, length, refl, ap, arith}
-use Rattle.kernel_records.specs.Words.{is_served_by}
+use Rattle.spec_records.specs.Words.{is_served_by}
 use Rattle.exit_paths.proofs.Transit.{drops_then, lost_drops}
 use Rattle.exit_paths.proofs.calls.end_server.Goals as goal
 

@@ -1,7 +1,7 @@
 use Rattle.std.proofs.Common.{get_or, le_refl, le_trans, subst, sym}
 use Rattle.std.proofs.lemmas.List.{take_all, take_more}
 use Rattle.dk_base.specs.declared.object.Item.TheVariants as item
-use Rattle.kernel_records.specs.Words.{leaving_of}
+use Rattle.spec_records.specs.Words.{leaving_of}
 use Rattle.exit_paths.specs.Words.{AreRefused}
 use Rattle.exit_paths.proofs.CallsSoFar.{next_refused, none_refused}
 use Rattle.exit_paths.proofs.calls.refuse_lost.Goals as goal

@@ -1,6 +1,6 @@
 use Rattle.std.proofs.Common.{◌≤◌, List, take}
-use Rattle.kernel_records.specs.Words.{ProcessTable, leaving_of}
-use Rattle.written_kernel.specs.Types.{Call}
+use Rattle.spec_records.specs.Words.{ProcessTable, leaving_of}
+use Rattle.spec_kernel.specs.Types.{Call}
 use Rattle.exit_paths.specs.Words.{AreRefused, DropsTransit, in_transit}
 use Rattle.exit_paths.proofs.calls.refuse_lost.Given as goal
 

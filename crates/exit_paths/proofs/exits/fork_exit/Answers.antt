@@ -3,11 +3,11 @@ use Rattle.std.proofs.lemmas.List.{length-map}
 use Rattle.std.specs.List.{list_any}
 use Rattle.dk_base.specs.declared.limits.TheConstants.{THREADS_MAX}
 use Rattle.dk_base.specs.declared.object.Item.TheVariants as item
-use Rattle.kernel_records.specs.Words.{CallTree, forking, is_waiting_stage, numbers_where, tid}
+use Rattle.spec_records.specs.Words.{CallTree, forking, is_waiting_stage, numbers_where, tid}
 use Rattle.server_pool.specs.Words.{is_item}
 use Rattle.fork_step.specs.Forking.{abandon_each, dropped_by_each}
-use Rattle.thread_set.specs.Sets.{members}
-use Rattle.thread_set.specs.Words.{has}
+use Rattle.dk_base.specs.ThreadSets.{members}
+use Rattle.dk_base.specs.Words.{has}
 use Rattle.exit_paths.specs.Words.{DropsTransit, has_ready, is_idle_at}
 use Rattle.exit_paths.proofs.CallersLeft.{and_false}
 use Rattle.exit_paths.proofs.Exited.{earlier_there, exited, room_there, somehow}

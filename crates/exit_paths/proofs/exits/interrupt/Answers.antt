@@ -1,7 +1,7 @@
 use Rattle.std.proofs.Common.{inl, ◌≡◌, ◌==◌, ◌&&◌, true, false, not, refl, ap, ap₂, ◌∙◌, subst}
 use Rattle.std.specs.List.{list_any}
 use Rattle.dk_base.specs.declared.object.Item.TheVariants as item
-use Rattle.kernel_records.specs.Words.{ProcessTable, change_thread, interrupted_thread, interruption, is_waiting_stage}
+use Rattle.spec_records.specs.Words.{ProcessTable, change_thread, interrupted_thread, interruption, is_waiting_stage}
 use Rattle.server_pool.specs.Words.{is_item}
 use Rattle.exit_paths.specs.Words.{became_idle, became_ready, with_deserted}
 use Rattle.exit_paths.proofs.CallersLeft.{and_false, caller_goes, interrupted_calls, or_false}

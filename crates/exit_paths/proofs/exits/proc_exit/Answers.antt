@@ -1,5 +1,5 @@
 use Rattle.std.proofs.Common.{inl, ◌≡◌, ◌==◌, ◌++◌, length, sym, ap, ◌∙◌, subst, le_trans}
-use Rattle.kernel_records.specs.Words.{ProcessTable, process_end}
+use Rattle.spec_records.specs.Words.{ProcessTable, process_end}
 use Rattle.exit_paths.specs.Words.{DropsTransit, dropped_items, has_ready, is_idle_at, is_thread_of}
 use Rattle.exit_paths.proofs.Alike.{agrees_same}
 use Rattle.exit_paths.proofs.Untaken.{lost_same, tells_calls, tells_dropped, untaken_there}

@@ -1,5 +1,5 @@
 use Rattle.std.proofs.Common.{inr, ◌≡◌, ◌∷◌, ◌++◌, [], sym, ap, ◌∙◌, subst}
-use Rattle.kernel_records.specs.Words.{revocation}
+use Rattle.spec_records.specs.Words.{revocation}
 use Rattle.exit_paths.specs.Words.{DropsTransit, dropped_items, has_ready}
 use Rattle.exit_paths.proofs.DoorsLost.{door_goes, revoked_calls}
 use Rattle.exit_paths.proofs.Exited.{exited}

@@ -1,5 +1,5 @@
 use Rattle.std.proofs.Common.{sym, ap, ◌∙◌}
-use Rattle.kernel_records.specs.Words.{change_thread}
+use Rattle.spec_records.specs.Words.{change_thread}
 use Rattle.exit_paths.specs.Words.{deserted_as, parks_again}
 use Rattle.exit_paths.proofs.Fated.{agrees_cancelled, change_nothing}
 use Rattle.exit_paths.proofs.fates.desert.Goals as goal

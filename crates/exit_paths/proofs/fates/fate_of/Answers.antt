@@ -1,7 +1,7 @@
 use Rattle.std.proofs.Common.{ℕ, Bool, if◌then◌else◌, find, sym, ap, ap₂, ◌∙◌}
-use Rattle.kernel_records.specs.Words.{deserted_in, ended_thread, interrupted_where, is_served_by, leaving_of}
-use Rattle.written_kernel.specs.Types.{Thread}
-use Rattle.thread_set.specs.Words.{has}
+use Rattle.spec_records.specs.Words.{deserted_in, ended_thread, interrupted_where, is_served_by, leaving_of}
+use Rattle.spec_kernel.specs.Types.{Thread}
+use Rattle.dk_base.specs.Words.{has}
 use Rattle.exit_paths.specs.Words.{deserted_as, with_interrupted}
 use Rattle.exit_paths.proofs.fates.fate_of.Goals as goal
 

@@ -1,7 +1,7 @@
 use Rattle.std.proofs.Common.{◌≤◌, ⊎_elim, sym, ap, ◌∙◌, subst, eq-or-lt_of_le, arith}
-use Rattle.kernel_records.specs.Words.{is_fellow_caller, thread_at}
+use Rattle.spec_records.specs.Words.{is_fellow_caller, thread_at}
 use Rattle.proc_table.specs.Words.{Walks, is_of}
-use Rattle.thread_set.specs.Words.{has}
+use Rattle.dk_base.specs.Words.{has}
 use Rattle.exit_paths.proofs.ForkLeft.{caller_of_own, no_caller_zero, with_here, with_other}
 use Rattle.exit_paths.proofs.LeftThreads.{or_later}
 use Rattle.exit_paths.proofs.fates.fellow_callers.Goals as goal

@@ -1,5 +1,5 @@
 use Rattle.std.proofs.Common.{sym, ap, ◌∙◌}
-use Rattle.kernel_records.specs.Words.{change_thread, interrupted_where}
+use Rattle.spec_records.specs.Words.{change_thread, interrupted_where}
 use Rattle.exit_paths.proofs.Fated.{change_nothing}
 use Rattle.exit_paths.proofs.fates.interrupt_where.Goals as goal
 

@@ -1,8 +1,8 @@
 use Rattle.std.proofs.Common.{if◌then◌else◌, sym, ap, ◌∙◌}
-use Rattle.kernel_records.specs.Words.{ProcessTable, change_thread, ended_thread, interrupted_where}
+use Rattle.spec_records.specs.Words.{ProcessTable, change_thread, ended_thread, interrupted_where}
 use Rattle.exit_paths.specs.Words.{deserted_as}
 use Rattle.exit_paths.proofs.Fated.{agrees_interrupted, own_pool_interrupted, there_changed}
-use Rattle.pool_agreement.proofs.Unparking.{change_twice}
+use Rattle.law_pools.proofs.Unparking.{change_twice}
 use Rattle.exit_paths.proofs.fates.leave_thread.Goals as goal
 
 pub desert-requires : goal.desert-requires

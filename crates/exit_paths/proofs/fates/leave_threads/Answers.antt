@@ -1,7 +1,7 @@
 use Rattle.std.proofs.Common.{◌≡◌, ◌+◌, ◌-◌, ◌<◌, ◌≤◌, length, sym, ◌∙◌, subst, arith}
-use Rattle.kernel_records.specs.Words.{leaving_of}
+use Rattle.spec_records.specs.Words.{leaving_of}
 use Rattle.server_pool.specs.Words.{thread_room_in}
-use Rattle.thread_set.specs.Words.{has}
+use Rattle.dk_base.specs.Words.{has}
 use Rattle.exit_paths.specs.Words.{fated, own_pool_in}
 use Rattle.exit_paths.proofs.Fated.{keeps_self, keeps_then}
 use Rattle.exit_paths.proofs.LeftThreads.{HasLeft, all_left, fate_now, interrupting_as, next_later, next_left, next_room, next_there}

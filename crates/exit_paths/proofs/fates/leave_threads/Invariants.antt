@@ -1,9 +1,9 @@
 use Rattle.std.proofs.Common.{◌+◌, ◌-◌, ◌≤◌, List}
 use Rattle.dk_base.specs.declared.limits.TheConstants.{THREADS_MAX}
-use Rattle.kernel_records.specs.Words.{CallTree, NoticeList, leaving_of}
-use Rattle.written_kernel.specs.Types.{Door, Pool}
+use Rattle.spec_records.specs.Words.{CallTree, NoticeList, leaving_of}
+use Rattle.spec_kernel.specs.Types.{Door, Pool}
 use Rattle.server_pool.specs.Words.{thread_room_in}
-use Rattle.pool_agreement.specs.Words.{Agrees}
+use Rattle.law_pools.specs.Words.{Agrees}
 use Rattle.proc_table.specs.Words.{Walks}
 use Rattle.exit_paths.specs.Words.{KeepsItems}
 use Rattle.exit_paths.proofs.LeftThreads.{HasLeft}

@@ -2,7 +2,7 @@ use Rattle.std.proofs.Common.{◌≡◌, ℕ, ◌-◌, ◌≤◌, true, is_some,
 use Rattle.dk_base.specs.declared.limits.TheConstants.{THREADS_MAX}
 use Rattle.server_pool.specs.Words.{pool_at, thread_room_in}
 use Rattle.proc_table.specs.Words.{Walks}
-use Rattle.thread_set.specs.Words.{has}
+use Rattle.dk_base.specs.Words.{has}
 use Rattle.exit_paths.specs.Words.{HasNoLessRoom, HoldsSame, own_pool_in}
 use Rattle.exit_paths.proofs.fates.make_room.Given as goal
 

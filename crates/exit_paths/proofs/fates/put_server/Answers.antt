@@ -1,5 +1,5 @@
 use Rattle.std.proofs.Common.{◌≡◌, true, is_some, sym, ◌∙◌}
-use Rattle.kernel_records.specs.Words.{thread_at}
+use Rattle.spec_records.specs.Words.{thread_at}
 use Rattle.exit_paths.proofs.Walked.{put_here, put_more, put_there, put_within}
 use Rattle.exit_paths.proofs.fates.put_server.Goals as goal
 

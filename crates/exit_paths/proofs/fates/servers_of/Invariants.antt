@@ -1,9 +1,9 @@
 use Rattle.std.proofs.Common.{◌≡◌, ℕ, ◌-◌, ◌≤◌, true, IfSome, find, is_some}
 use Rattle.dk_base.specs.declared.limits.TheConstants.{THREADS_MAX}
-use Rattle.kernel_records.specs.Words.{thread_at}
+use Rattle.spec_records.specs.Words.{thread_at}
 use Rattle.call_tree.specs.Words.{is_called_by}
 use Rattle.proc_table.specs.Words.{Walks}
-use Rattle.thread_set.specs.Words.{has}
+use Rattle.dk_base.specs.Words.{has}
 use Rattle.exit_paths.specs.Words.{deserted_in_call}
 use Rattle.exit_paths.proofs.fates.servers_of.Given as goal
 

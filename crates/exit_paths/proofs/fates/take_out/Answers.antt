@@ -1,7 +1,7 @@
 use Rattle.std.proofs.Common.{sym, ap, ◌∙◌, le_refl}
-use Rattle.kernel_records.specs.Words.{is_dormant, is_idle}
-use Rattle.pool_agreement.proofs.Stacks.{agrees_ended}
-use Rattle.pool_agreement.proofs.Unparking.{agrees_not_spare, agrees_unparked}
+use Rattle.spec_records.specs.Words.{is_dormant, is_idle}
+use Rattle.law_pools.proofs.Stacks.{agrees_ended}
+use Rattle.law_pools.proofs.Unparking.{agrees_not_spare, agrees_unparked}
 use Rattle.exit_paths.proofs.Fated.{above_unparked, keeps_self, keeps_spares, keeps_threads, not_dormant, not_idle, room_unparked}
 use Rattle.server_pool.specs.Words.{thread_room_in, without_spare, without_thread}
 use Rattle.exit_paths.proofs.fates.take_out.Goals as goal

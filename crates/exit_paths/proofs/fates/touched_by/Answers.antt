@@ -1,8 +1,8 @@
 use Rattle.std.proofs.Common.{◌≡◌, ⊎_elim, ◌≤◌, true, IfSome, find, is_some, sym, ap, ◌∙◌, subst, eq-or-lt_of_le, arith}
-use Rattle.kernel_records.specs.Words.{thread_at}
+use Rattle.spec_records.specs.Words.{thread_at}
 use Rattle.call_tree.specs.Words.{is_called_by}
 use Rattle.proc_table.specs.Words.{Walks}
-use Rattle.thread_set.specs.Words.{has}
+use Rattle.dk_base.specs.Words.{has}
 use Rattle.exit_paths.specs.Words.{deserted_in_call}
 use Rattle.exit_paths.proofs.Walked.{all_came, earlier, none_zero, of_there, server_more}
 use Rattle.exit_paths.proofs.fates.touched_by.Goals as goal

@@ -1,9 +1,9 @@
 use Rattle.std.proofs.Common.{◌≡◌, ◌&&◌, ◌++◌, Bool, true, false, ap, ap₂, map, not, refl, ◌∙◌, arith}
 use Rattle.dk_base.specs.declared.limits.TheConstants.{THREADS_MAX}
-use Rattle.kernel_records.specs.Words.{tid}
-use Rattle.kernel_records.proofs.DoorNumbers.{numbers_where-same}
+use Rattle.spec_records.specs.Words.{tid}
+use Rattle.dk_base.proofs.NumbersWhere.{numbers_where-same}
 use Rattle.exit_paths.proofs.Walked.{few_members, members_are}
-use Rattle.thread_set.specs.Sets.{members}
+use Rattle.dk_base.specs.ThreadSets.{members}
 use Rattle.exit_paths.proofs.marks.list_new.Goals as goal
 
 pub list-requires : goal.list-requires

@@ -1,6 +1,6 @@
 use Rattle.std.proofs.Common.{sym, ap, ◌∙◌, subst, arith}
 use Rattle.proc_table.specs.Words.{Walks}
-use Rattle.thread_set.specs.Words.{has}
+use Rattle.dk_base.specs.Words.{has}
 use Rattle.exit_paths.specs.Words.{is_call_of_any}
 use Rattle.exit_paths.proofs.ItemsLeft.{left_as, left_none, left_then}
 use Rattle.exit_paths.proofs.Walked.{all_walked, any_walked}

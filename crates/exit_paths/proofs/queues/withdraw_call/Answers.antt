@@ -1,7 +1,7 @@
 use Rattle.std.proofs.Common.{◌&&◌, sym, ap, ◌∙◌}
 use Rattle.dk_base.specs.ByNumber.{at_number}
 use Rattle.dk_base.specs.declared.object.Item.TheVariants as item
-use Rattle.kernel_records.specs.Words.{is_pool, pool_in}
+use Rattle.spec_records.specs.Words.{is_pool, pool_in}
 use Rattle.server_pool.specs.Words.{is_waiting_as}
 use Rattle.exit_paths.specs.Words.{HaveLeft}
 use Rattle.exit_paths.proofs.ItemsLeft.{left_as, left_none, left_pool}

@@ -1,7 +1,7 @@
 use Rattle.std.proofs.Common.{sym, ap, ◌∙◌, subst, arith}
 use Rattle.dk_base.specs.declared.limits.TheConstants.{THREADS_MAX}
 use Rattle.proc_table.specs.Words.{Walks}
-use Rattle.thread_set.specs.Words.{has}
+use Rattle.dk_base.specs.Words.{has}
 use Rattle.exit_paths.specs.Words.{is_call_of_any}
 use Rattle.exit_paths.proofs.ItemsLeft.{left_as, left_none, left_then}
 use Rattle.exit_paths.proofs.Walked.{any_beyond, any_walked}

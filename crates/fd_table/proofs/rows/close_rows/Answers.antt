@@ -1,7 +1,7 @@
 use Rattle.std.proofs.Common.{◌≡◌, None, get_or, arith}
 use Rattle.std.proofs.lemmas.Grind.{common_steps}
 use Rattle.std.proofs.lemmas.List.Edits.{map_over_more}
-use Rattle.kernel_records.specs.Words.{free_row}
+use Rattle.spec_records.specs.Words.{free_row}
 use Rattle.fd_table.proofs.rows.close_rows.Goals as goal
 
 pub loop-row-preserved : goal.loop-row-preserved

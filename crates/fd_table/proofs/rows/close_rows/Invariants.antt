@@ -1,5 +1,5 @@
 use Rattle.std.proofs.Common.{◌≡◌, ◌++◌, map, take, drop}
-use Rattle.kernel_records.specs.Words.{free_row}
+use Rattle.spec_records.specs.Words.{free_row}
 use Rattle.fd_table.proofs.rows.close_rows.Given as goal
 
 abbrev pub invariant-loop-row : goal.invariant-loop-row

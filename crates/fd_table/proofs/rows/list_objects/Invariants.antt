@@ -1,5 +1,5 @@
 use Rattle.std.proofs.Common.{◌≡◌, ◌+◌, ◌≤◌, ◌++◌, take}
-use Rattle.kernel_records.specs.Words.{objects_of}
+use Rattle.spec_records.specs.Words.{objects_of}
 use Rattle.fd_table.proofs.rows.list_objects.Given as goal
 
 abbrev pub invariant-loop-row : goal.invariant-loop-row

@@ -1,6 +1,6 @@
 use Rattle.std.proofs.Common.{◌≡◌, ◌≤◌, Some, None, length, drop, arith, rules}
 use Rattle.std.proofs.lemmas.List.{take_rest}
-use Rattle.kernel_records.specs.Words.{lowest_free}
+use Rattle.spec_records.specs.Words.{lowest_free}
 use Rattle.fd_table.proofs.Lowest.{lowest_within, found_ahead, nowhere_ahead}
 use Rattle.fd_table.proofs.rows.lowest_from.Goals as goal
 

@@ -1,5 +1,5 @@
 use Rattle.std.proofs.Common.{flat_map, length, sym, ap, ◌∙◌, arith}
-use Rattle.kernel_records.specs.Words.{CallTree}
+use Rattle.spec_records.specs.Words.{CallTree}
 use Rattle.call_tree.specs.Words.{transit_in}
 use Rattle.fork_step.proofs.Abandoned.{none_after, transit_after}
 use Rattle.fork_step.proofs.forking.fork_call.Goals as goal

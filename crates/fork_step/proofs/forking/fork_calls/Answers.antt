@@ -1,7 +1,7 @@
 use Rattle.std.proofs.Common.{◌≡◌, ◌+◌, ◌<◌, ◌∷◌, ◌++◌, List, get_or, length, drop, refl, sym, ap, ap₂, ◌∙◌, add-one, append_assoc, le_trans, arith}
 use Rattle.std.proofs.Math.Seq.{drop-cons}
 use Rattle.dk_base.specs.declared.number.Tid.{Tid}
-use Rattle.kernel_records.specs.Words.{CallTree}
+use Rattle.spec_records.specs.Words.{CallTree}
 use Rattle.fork_step.specs.Forking.{abandon_each, after_one, cancelled_by_each, cancelled_by_one, dropped_by_each, dropped_by_one, parked_by_each, parked_by_one}
 use Rattle.fork_step.proofs.forking.fork_calls.Goals as goal
 

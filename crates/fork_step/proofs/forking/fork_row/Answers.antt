@@ -1,6 +1,6 @@
 use Rattle.std.proofs.Common.{◌≡◌, ◌<◌, ℕ, zero, suc, List, [], ◌∷◌, Option, Some, None, length, slice_get, slice_set, refl, ap, ◌∙◌, arith}
 use Rattle.dk_base.specs.declared.object.Obj.{Obj}
-use Rattle.kernel_records.specs.Words.{object_in}
+use Rattle.spec_records.specs.Words.{object_in}
 use Rattle.fork_step.proofs.forking.fork_row.Goals as goal
 
 -- a row that names nothing stays so

@@ -1,7 +1,7 @@
 use Rattle.std.proofs.Common.{◌≡◌, ◌+◌, ◌<◌, ◌≤◌, ◌++◌, List, Option, length, drop, slice_get, slice_set, sym, ap, ◌∙◌, add-one, append_assoc, arith, length-append}
 use Rattle.std.specs.Option.{option_to_list}
 use Rattle.dk_base.specs.declared.object.Obj.{Obj}
-use Rattle.kernel_records.specs.Words.{object_in, objects_of}
+use Rattle.spec_records.specs.Words.{object_in, objects_of}
 use Rattle.fork_step.proofs.Copied.{copied, copied_all, copied_length, copied_next, next_free, rest_names}
 use Rattle.fork_step.proofs.forking.fork_rows.Goals as goal
 

@@ -1,5 +1,5 @@
 use Rattle.std.proofs.Common.{◌≡◌, ◌+◌, ◌≤◌, ◌++◌, length, drop}
-use Rattle.kernel_records.specs.Words.{objects_of}
+use Rattle.spec_records.specs.Words.{objects_of}
 use Rattle.fork_step.proofs.Copied.{copied}
 use Rattle.fork_step.proofs.forking.fork_rows.Given as goal
 

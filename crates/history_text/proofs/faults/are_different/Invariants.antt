@@ -1,6 +1,6 @@
 use Rattle.std.proofs.Common.{◌≡◌, length}
 use Rattle.std.specs.Prelude.{bytes_eq}
-use Rattle.script_text.specs.Words.{are_distinct}
+use Rattle.line_text.specs.Words.{are_distinct}
 use Rattle.history_text.proofs.faults.are_different.Given as goal
 
 abbrev pub invariant-loop-first : goal.invariant-loop-first

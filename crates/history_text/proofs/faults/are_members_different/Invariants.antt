@@ -1,5 +1,5 @@
 use Rattle.std.proofs.Common.{◌≡◌, length}
-use Rattle.script_text.specs.Words.{are_distinct}
+use Rattle.line_text.specs.Words.{are_distinct}
 use Rattle.history_text.specs.Faults.{have_same_name}
 use Rattle.history_text.proofs.faults.are_members_different.Given as goal
 

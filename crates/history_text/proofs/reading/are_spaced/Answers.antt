@@ -1,5 +1,5 @@
 use Rattle.std.proofs.Common.{sym, ◌∙◌}
-use Rattle.script_text.specs.Words.{words_of}
+use Rattle.line_text.specs.Words.{words_of}
 use Rattle.history_text.proofs.SpacedLine.{spaced_lacks_word}
 use Rattle.history_text.proofs.reading.are_spaced.Goals as goal
 

@@ -1,6 +1,6 @@
 use Rattle.std.proofs.Common.{◌≡◌, length}
 use Rattle.std.specs.Prelude.{bytes_eq}
-use Rattle.script_text.specs.Words.{spaced_words, words_of}
+use Rattle.line_text.specs.Words.{spaced_words, words_of}
 use Rattle.history_text.proofs.reading.are_spaced.Given as goal
 
 abbrev pub invariant-loop-word : goal.invariant-loop-word

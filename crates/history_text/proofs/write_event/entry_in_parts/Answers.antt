@@ -1,7 +1,7 @@
 use Rattle.std.proofs.Common.{◌≡◌, ◌∷◌, append_assoc, sym}
 use Rattle.std.specs.Prelude.{codes, decimal}
-use Rattle.script_text.specs.Words.{joined_words}
-use Rattle.script_requests.specs.Words.{answer_text}
+use Rattle.line_text.specs.Words.{joined_words}
+use Rattle.spec_requests.specs.Words.{answer_text}
 use Rattle.history_text.specs.Entries.{asked_of}
 use Rattle.history_text.specs.Lookups.{procedure_word, thread_word}
 use Rattle.history_text.specs.LineWords.{asked_words}

@@ -1,6 +1,6 @@
 use Rattle.std.proofs.Common.{◌≡◌, ◌≤◌, ◌*◌, ◌++◌, flat_map, take}
-use Rattle.script_text.specs.Words.{spaced_words}
-use Rattle.script_line.specs.Words.{attribute_flags, attribute_if, bits_of_flags}
+use Rattle.line_text.specs.Words.{spaced_words}
+use Rattle.line_forms.specs.Words.{attribute_flags, attribute_if, bits_of_flags}
 use Rattle.trace_text.specs.Taken.{TakesAtMost}
 use Rattle.history_text.proofs.write_operands.push_set.Given as goal
 

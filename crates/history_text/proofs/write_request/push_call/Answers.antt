@@ -1,5 +1,5 @@
 use Rattle.std.proofs.Common.{decimal}
-use Rattle.script_text.specs.Words.{quoted_text}
+use Rattle.line_text.specs.Words.{quoted_text}
 use Rattle.history_text.specs.LineWords.{desc_words, fd_word}
 use Rattle.history_text.proofs.Spaced.{call_put}
 use Rattle.history_text.proofs.write_request.push_call.Goals as goal

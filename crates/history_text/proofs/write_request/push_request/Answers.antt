@@ -1,6 +1,6 @@
 use Rattle.std.proofs.Common.{[], ◌∷◌, ◌∙◌, append_assoc}
 use Rattle.std.specs.Prelude.{codes}
-use Rattle.script_text.specs.Words.{spaced_words}
+use Rattle.line_text.specs.Words.{spaced_words}
 use Rattle.history_text.specs.LineWords.{fd_word}
 use Rattle.history_text.proofs.write_request.push_request.Goals as goal
 

@@ -3,7 +3,7 @@ use Rattle.spec_histories.specs.Histories.{Entry, end, next}
 use Rattle.history_text.specs.declared.line.Asked.TheVariants.{Enter, GoOn}
 use Rattle.history_text.specs.LeftText.{left_text}
 use Rattle.history_text.specs.Lookups.{process_of}
-use Rattle.written_kernel.specs.Words.{what_of_wait}
+use Rattle.spec_kernel.specs.Words.{what_of_wait}
 use Rattle.kernel_chronicle.specs.declared.refusal.Refusal.{Refusal}
 use Rattle.kernel_chronicle.specs.Written.{IsCauseOfGoOn, Written}
 use Rattle.kernel_chronicle.proofs.Few.{few_items, none_sent}

@@ -1,5 +1,5 @@
 use Rattle.std.proofs.Common.{None, ap, arith, sym, ◌∙◌}
-use Rattle.written_kernel.specs.Words.{ActResult, act, process_of, state_of}
+use Rattle.spec_kernel.specs.Words.{ActResult, act, process_of, state_of}
 use Rattle.kernel_store.specs.Words.{stored_state}
 use Rattle.kernel_core.proofs.Endings.{ended_getting, ending_getting}
 use Rattle.kernel_core.proofs.Live.{go_on_past, is_kept}

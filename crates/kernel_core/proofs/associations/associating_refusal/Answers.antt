@@ -1,6 +1,6 @@
 use Rattle.std.proofs.Common.{sym}
-use Rattle.kernel_records.specs.Words.{associate_tests}
-use Rattle.written_kernel.specs.Words.{object_at}
+use Rattle.spec_records.specs.Words.{associate_tests}
+use Rattle.spec_kernel.specs.Words.{object_at}
 use Rattle.kernel_store.specs.Words.{stored_state}
 use Rattle.kernel_core.proofs.associations.associating_refusal.Goals as goal
 

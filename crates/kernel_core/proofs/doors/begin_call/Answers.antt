@@ -2,8 +2,8 @@ use Rattle.std.proofs.Common.{ap, find, sym, ◌∙◌}
 use Rattle.std.specs.Option.{option_copied}
 use Rattle.call_tree.specs.Words.{CallsValue}
 use Rattle.kernel_store.specs.Words.{stored_state}
-use Rattle.written_kernel.specs.Words.{State, table_of}
-use Rattle.kernel_records.specs.Words.{is_given_as, new_descriptors}
+use Rattle.spec_kernel.specs.Words.{State, table_of}
+use Rattle.spec_records.specs.Words.{is_given_as, new_descriptors}
 use Rattle.kernel_core.proofs.Told.{begins}
 use Rattle.kernel_core.proofs.doors.begin_call.Goals as goal
 

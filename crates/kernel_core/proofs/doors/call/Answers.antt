@@ -1,7 +1,7 @@
 use Rattle.std.proofs.Common.{◌≡◌, ◌<◌, ◌++◌, ap, sym, subst, ◌∙◌, length, arith}
 use Rattle.dk_base.specs.declared.limits.TheConstants.{QUEUE_MAX}
-use Rattle.kernel_records.specs.Words.{objects_passed}
-use Rattle.written_kernel.specs.Words.{State, calls_waiting, is_valid, pool_of, table_of}
+use Rattle.spec_records.specs.Words.{objects_passed}
+use Rattle.spec_kernel.specs.Words.{State, calls_waiting, is_valid, pool_of, table_of}
 use Rattle.kernel_store.specs.Words.{AreThere}
 use Rattle.kernel_store.specs.Words.{stored_state}
 use Rattle.kernel_core.proofs.Tests.{called_once, called_valid, not_full}

@@ -1,6 +1,6 @@
 use Rattle.std.proofs.Common.{◌≡◌, ◌++◌, Some, None, ap, length, sym, ◌∙◌}
-use Rattle.kernel_records.specs.Words.{first_refusal, limit_tests}
-use Rattle.written_kernel.specs.Words.{door_named, door_of, object_at, pass_tests, pool_tests}
+use Rattle.spec_records.specs.Words.{first_refusal, limit_tests}
+use Rattle.spec_kernel.specs.Words.{door_named, door_of, object_at, pass_tests, pool_tests}
 use Rattle.kernel_store.specs.Words.{stored_state}
 use Rattle.kernel_core.proofs.Tests.{first_of, none_of}
 use Rattle.kernel_core.proofs.doors.call_refusal.Goals as goal

@@ -1,7 +1,7 @@
 use Rattle.std.proofs.Common.{ap, arith, length, sym, subst, ◌∙◌}
-use Rattle.kernel_records.specs.declared.record.ThreadState.TheVariants as is
-use Rattle.kernel_records.specs.Words.{collect_call, is_to_collect_as, live_calls, set_thread_state}
-use Rattle.written_kernel.specs.Words.{State, find_call, now, tables_after_collect}
+use Rattle.spec_records.specs.declared.record.ThreadState.TheVariants as is
+use Rattle.spec_records.specs.Words.{collect_call, is_to_collect_as, live_calls, set_thread_state}
+use Rattle.spec_kernel.specs.Words.{State, find_call, now, tables_after_collect}
 use Rattle.kernel_store.specs.Words.{IsRoomFor, results_in, stored_state}
 use Rattle.kernel_core.proofs.Live.{collect_stands}
 use Rattle.kernel_core.proofs.Collected.{told_alike}

@@ -1,6 +1,6 @@
 use Rattle.std.proofs.Common.{◌≡◌, ◌++◌, true, false, ap, sym, subst, ◌∙◌, length, arith, is_some, find}
-use Rattle.kernel_records.specs.Words.{end_invocation, end_notice, kept_notices, objects_passed, park_thread, return_call, unbind_thread, is_client_call_of}
-use Rattle.written_kernel.specs.Words.{State, has_invalid_door, now, table_of, tables_after_pass}
+use Rattle.spec_records.specs.Words.{end_invocation, end_notice, kept_notices, objects_passed, park_thread, return_call, unbind_thread, is_client_call_of}
+use Rattle.spec_kernel.specs.Words.{State, has_invalid_door, now, table_of, tables_after_pass}
 use Rattle.kernel_store.specs.Words.{AreThere}
 use Rattle.kernel_store.specs.Words.{stored_state}
 use Rattle.kernel_core.proofs.Live.{return_stands}

@@ -1,6 +1,6 @@
 use Rattle.std.proofs.Common.{ap, sym, ◌∙◌}
 use Rattle.kernel_store.specs.Words.{results_in, stored_state}
-use Rattle.written_kernel.specs.Words.{tables_after_collect}
+use Rattle.spec_kernel.specs.Words.{tables_after_collect}
 use Rattle.kernel_core.proofs.Collected.{nothing_collected}
 use Rattle.kernel_core.proofs.doors.tell.Goals as goal
 

@@ -1,7 +1,7 @@
 use Rattle.std.proofs.Common.{ap, drop, get_or, length, sym, ◌+◌, ◌∙◌, ◌∷◌, [], arith, length-append}
 use Rattle.std.proofs.lemmas.List.{drop_more}
-use Rattle.kernel_records.specs.Words.{empty_table, new_process}
-use Rattle.written_kernel.specs.Words.{State, with_processes}
+use Rattle.spec_records.specs.Words.{empty_table, new_process}
+use Rattle.spec_kernel.specs.Words.{State, with_processes}
 use Rattle.kernel_store.specs.Words.{stored_state}
 use Rattle.kernel_core.proofs.kernel.with_processes.Goals as goal
 

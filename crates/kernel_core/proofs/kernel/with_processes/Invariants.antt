@@ -1,5 +1,5 @@
 use Rattle.std.proofs.Common.{ℕ, ◌≡◌, ◌+◌, ◌≤◌, length, drop}
-use Rattle.written_kernel.specs.Words.{with_processes}
+use Rattle.spec_kernel.specs.Words.{with_processes}
 use Rattle.kernel_store.specs.Words.{IsAtRest, stored_state}
 use Rattle.kernel_core.proofs.kernel.with_processes.Given as goal
 

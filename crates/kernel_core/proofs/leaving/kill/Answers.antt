@@ -1,7 +1,7 @@
 use Rattle.std.proofs.Common.{◌≡◌, Bool, true, false, if◌then◌else◌, ap, sym, subst, ◌∙◌}
 use Rattle.dk_base.specs.ByNumber.{at_number}
-use Rattle.kernel_records.specs.Words.{ProcessTable, is_live_in}
-use Rattle.written_kernel.specs.Words.{StandsFor, is_live_process, leave_process}
+use Rattle.spec_records.specs.Words.{ProcessTable, is_live_in}
+use Rattle.spec_kernel.specs.Words.{StandsFor, is_live_process, leave_process}
 use Rattle.kernel_store.specs.Words.{stored_state}
 use Rattle.kernel_core.proofs.Live.{live_state}
 use Rattle.kernel_core.proofs.leaving.kill.Goals as goal

@@ -1,6 +1,6 @@
 use Rattle.std.proofs.Common.{ap, ◌∙◌}
-use Rattle.kernel_records.specs.Words.{close_table, end_owner, end_process, is_idle, state_in, with_table}
-use Rattle.written_kernel.specs.Words.{State, state_of, table_of}
+use Rattle.spec_records.specs.Words.{close_table, end_owner, end_process, is_idle, state_in, with_table}
+use Rattle.spec_kernel.specs.Words.{State, state_of, table_of}
 use Rattle.kernel_store.specs.Words.{stored_state}
 use Rattle.kernel_core.proofs.CanSettle.{parks_then, same_thread}
 use Rattle.kernel_core.proofs.Live.{leave_process_stands}

@@ -1,6 +1,6 @@
 use Rattle.std.proofs.Common.{ap, ◌∙◌}
-use Rattle.kernel_records.specs.Words.{close_row, is_idle, revoke_door}
-use Rattle.written_kernel.specs.Words.{State, state_of, table_of, with_table_of}
+use Rattle.spec_records.specs.Words.{close_row, is_idle, revoke_door}
+use Rattle.spec_kernel.specs.Words.{State, state_of, table_of, with_table_of}
 use Rattle.kernel_store.specs.Words.{stored_state}
 use Rattle.kernel_core.proofs.CanSettle.{parks_then}
 use Rattle.kernel_core.proofs.Live.{revoke_stands}

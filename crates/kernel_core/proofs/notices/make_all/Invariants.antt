@@ -1,7 +1,7 @@
 use Rattle.std.proofs.Common.{◌≡◌, drop}
-use Rattle.thread_set.specs.declared.set.ThreadSet.{ThreadSet}
+use Rattle.dk_base.specs.declared.thread_set.ThreadSet.{ThreadSet}
 use Rattle.kernel_store.specs.Words.{CanMake, CanSettle, IsInEvent, stored_state}
-use Rattle.written_kernel.specs.Types.{Pool}
+use Rattle.spec_kernel.specs.Types.{Pool}
 use Rattle.kernel_core.specs.Watched.{make_of}
 use Rattle.kernel_core.proofs.notices.make_all.Given as goal
 

@@ -1,5 +1,5 @@
 use Rattle.std.proofs.Common.{◌≡◌, ◌≤◌, ◌++◌, ◌∙◌, ap, ap₂, [], length, filter, refl, sym, subst, arith}
-use Rattle.kernel_records.specs.Words.{notice_doors}
+use Rattle.spec_records.specs.Words.{notice_doors}
 use Rattle.kernel_store.specs.Words.{CanMake, CanSettle, StoreValue, has_fallen_since, stored_state}
 use Rattle.kernel_core.specs.Watched.{fallen, make_of}
 use Rattle.kernel_core.proofs.Acted.{can_make_fallen}

@@ -1,6 +1,6 @@
 use Rattle.std.proofs.Common.{◌≡◌, rules, true, sym, subst, ◌∙◌}
 use Rattle.std.specs.Prelude.{is_some}
-use Rattle.written_kernel.specs.Words.{door_of}
+use Rattle.spec_kernel.specs.Words.{door_of}
 use Rattle.kernel_store.specs.Words.{ArePlaced, stored_state}
 use Rattle.kernel_core.proofs.Making.{placed-with_notice_of, may_have_there}
 use Rattle.kernel_core.proofs.notices.make_one.Goals as goal

@@ -1,6 +1,6 @@
 use Rattle.std.proofs.Common.{ap, ◌∙◌}
-use Rattle.written_kernel.specs.Words.{State, fail_returns, give_and_start}
-use Rattle.written_kernel.proofs.Notices.{doors-make_notices}
+use Rattle.spec_kernel.specs.Words.{State, fail_returns, give_and_start}
+use Rattle.spec_kernel.proofs.Notices.{doors-make_notices}
 use Rattle.kernel_store.specs.Words.{stored_state}
 use Rattle.kernel_core.proofs.Steps.{first_made}
 use Rattle.kernel_core.proofs.notices.settle.Goals as goal

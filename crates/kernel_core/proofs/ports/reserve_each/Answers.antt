@@ -1,8 +1,8 @@
 use Rattle.std.proofs.Common.{All, ap, arith, get_or, length, subst, sym, take, ◌∙◌}
 use Rattle.std.proofs.lemmas.List.{take_all}
 use Rattle.std.proofs.lemmas.List.Elements.{All-more, All-weaker}
-use Rattle.written_kernel.specs.Types.{Fd}
-use Rattle.written_kernel.specs.Words.{State, port_at}
+use Rattle.spec_kernel.specs.Types.{Fd}
+use Rattle.spec_kernel.specs.Words.{State, port_at}
 use Rattle.kernel_store.specs.Words.{HasRoomForEvents, stored_state}
 use Rattle.kernel_core.proofs.Sending.{keeps_then}
 use Rattle.kernel_core.proofs.ports.reserve_each.Goals as goal

@@ -1,5 +1,5 @@
 use Rattle.std.proofs.Common.{◌≡◌, All, length, take}
-use Rattle.written_kernel.specs.Words.{port_at}
+use Rattle.spec_kernel.specs.Words.{port_at}
 use Rattle.kernel_store.specs.Words.{HasRoomForEvents, KeepsPools, stored_state}
 use Rattle.kernel_core.proofs.ports.reserve_each.Given as goal
 

@@ -2,9 +2,9 @@ use Rattle.std.proofs.Common.{◌≡◌, ◌+◌, ◌-◌, ◌++◌, ◌∷◌, 
 use Rattle.std.proofs.lemmas.List.{drop_all}
 use Rattle.std.proofs.lemmas.List.Elements.{All-weaker}
 use Rattle.dk_base.specs.declared.answer.Answer.TheVariants as answer
-use Rattle.kernel_records.specs.Words.{Port}
-use Rattle.written_kernel.specs.Types.{Errno, Fd}
-use Rattle.written_kernel.specs.Words.{State, after_sending, after_sending_each, errors_of_sending, object_at, port_at, sending_error, with_ports}
+use Rattle.spec_records.specs.Words.{Port}
+use Rattle.spec_kernel.specs.Types.{Errno, Fd}
+use Rattle.spec_kernel.specs.Words.{State, after_sending, after_sending_each, errors_of_sending, object_at, port_at, sending_error, with_ports}
 use Rattle.kernel_store.specs.Words.{HasRoomForEvents, stored_state}
 use Rattle.kernel_core.proofs.Sending.{keeps_then, one_more_error, one_more_sent, room_for_fewer, room_for_rest}
 use Rattle.kernel_core.proofs.ports.send_each.Goals as goal

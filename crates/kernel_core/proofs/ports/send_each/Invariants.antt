@@ -1,5 +1,5 @@
 use Rattle.std.proofs.Common.{◌≡◌, ◌+◌, ◌-◌, ◌≤◌, ◌++◌, All, drop, length, map}
-use Rattle.written_kernel.specs.Words.{after_sending_each, errors_of_sending, object_at, port_at, with_ports}
+use Rattle.spec_kernel.specs.Words.{after_sending_each, errors_of_sending, object_at, port_at, with_ports}
 use Rattle.kernel_store.specs.Words.{HasRoomForEvents, KeepsPools, stored_state}
 use Rattle.kernel_core.proofs.ports.send_each.Given as goal
 

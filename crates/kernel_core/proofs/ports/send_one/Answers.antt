@@ -1,7 +1,7 @@
 use Rattle.std.proofs.Common.{◌≡◌, Option, Some, ap, if◌then◌else◌, is_none, sym}
-use Rattle.kernel_records.specs.Words.{send_event, send_tests}
-use Rattle.written_kernel.specs.Types.{Errno}
-use Rattle.written_kernel.specs.Words.{object_at, port, port_at, sending_error, with_ports}
+use Rattle.spec_records.specs.Words.{send_event, send_tests}
+use Rattle.spec_kernel.specs.Types.{Errno}
+use Rattle.spec_kernel.specs.Words.{object_at, port, port_at, sending_error, with_ports}
 use Rattle.kernel_store.specs.Words.{stored_state}
 use Rattle.kernel_core.proofs.ports.send_one.Goals as goal
 

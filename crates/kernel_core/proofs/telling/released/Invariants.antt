@@ -1,5 +1,5 @@
 use Rattle.std.proofs.Common.{◌≡◌, ◌++◌, drop}
-use Rattle.act_changes.specs.Closed.{released}
+use Rattle.law_channels.specs.Closed.{released}
 use Rattle.kernel_core.proofs.telling.released.Given as goal
 
 abbrev pub invariant-loop-x : goal.invariant-loop-x

@@ -1,6 +1,6 @@
 use Rattle.std.proofs.Common.{ap, ◌∙◌}
-use Rattle.kernel_records.specs.Words.{create_timer_error, create_timer_tests}
-use Rattle.written_kernel.specs.Words.{State, object_at, port_tests, timers_in}
+use Rattle.spec_records.specs.Words.{create_timer_error, create_timer_tests}
+use Rattle.spec_kernel.specs.Words.{State, object_at, port_tests, timers_in}
 use Rattle.kernel_store.specs.Words.{stored_state}
 use Rattle.kernel_core.proofs.Tests.{none_after}
 use Rattle.kernel_core.proofs.timers.create.Goals as goal

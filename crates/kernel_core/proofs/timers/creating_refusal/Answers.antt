@@ -1,6 +1,6 @@
 use Rattle.std.proofs.Common.{sym}
-use Rattle.kernel_records.specs.Words.{create_timer_tests}
-use Rattle.written_kernel.specs.Words.{timers_in}
+use Rattle.spec_records.specs.Words.{create_timer_tests}
+use Rattle.spec_kernel.specs.Words.{timers_in}
 use Rattle.kernel_store.specs.Words.{stored_state}
 use Rattle.kernel_core.proofs.timers.creating_refusal.Goals as goal
 

@@ -2,8 +2,8 @@ use Rattle.std.proofs.Common.{cond, false, filter, get_or, ap, ◌∙◌, arith,
 use Rattle.std.specs.Option.{option_to_list}
 use Rattle.std.proofs.lemmas.List.{take_all}
 use Rattle.dk_base.specs.declared.object.Obj.{Obj}
-use Rattle.kernel_records.specs.Words.{count_object, object_named, objects_passed, table_in}
-use Rattle.written_kernel.specs.Types.{Pass}
+use Rattle.spec_records.specs.Words.{count_object, object_named, objects_passed, table_in}
+use Rattle.spec_kernel.specs.Types.{Pass}
 use Rattle.kernel_holdings.specs.Words.{is_released}
 use Rattle.kernel_holdings.proofs.Lowering.{count_released-more, length_released-more, released_first}
 use Rattle.kernel_holdings.proofs.lowered.lower_released.Goals as goal

@@ -1,6 +1,6 @@
 use Rattle.std.proofs.Common.{◌≡◌, ◌+◌, ◌-◌, length, ◌≤◌, filter, take}
 use Rattle.dk_base.specs.declared.object.Obj.{Obj}
-use Rattle.kernel_records.specs.Words.{count_object, objects_passed, table_in}
+use Rattle.spec_records.specs.Words.{count_object, objects_passed, table_in}
 use Rattle.unref_notice.specs.Words.{count_of}
 use Rattle.kernel_holdings.specs.Words.{is_released}
 use Rattle.kernel_holdings.proofs.lowered.lower_released.Given as goal

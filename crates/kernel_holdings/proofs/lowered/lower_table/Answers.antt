@@ -1,6 +1,6 @@
 use Rattle.std.proofs.Common.{◌<◌, length, ap, ◌∙◌, arith}
 use Rattle.std.proofs.lemmas.List.{take_all}
-use Rattle.kernel_records.specs.Words.{object_named, count_object, objects_of, table_in}
+use Rattle.spec_records.specs.Words.{object_named, count_object, objects_of, table_in}
 use Rattle.kernel_holdings.proofs.Lowering.{count_rows-more, one_named}
 use Rattle.kernel_holdings.proofs.lowered.lower_table.Goals as goal
 

@@ -1,6 +1,6 @@
 use Rattle.std.proofs.Common.{◌≡◌, ◌+◌, ◌-◌, ◌≤◌, take}
 use Rattle.dk_base.specs.declared.object.Obj.{Obj}
-use Rattle.kernel_records.specs.Words.{count_object, objects_of, table_in}
+use Rattle.spec_records.specs.Words.{count_object, objects_of, table_in}
 use Rattle.unref_notice.specs.Words.{count_of}
 use Rattle.kernel_holdings.proofs.lowered.lower_table.Given as goal
 

@@ -1,8 +1,8 @@
 use Rattle.std.proofs.Common.{◌≡◌, ℕ, ◌==◌, Bool, false, true, if◌then◌else◌, ap, arith, length, sym, ◌∙◌}
 use Rattle.server_pool.specs.Words.{change_spares, without_spare}
-use Rattle.thread_set.specs.declared.set.ThreadSet.{ThreadSet}
-use Rattle.thread_set.specs.Words.{has, with_thread}
-use Rattle.thread_set.proofs.Members.{first_taken}
+use Rattle.dk_base.specs.declared.thread_set.ThreadSet.{ThreadSet}
+use Rattle.dk_base.specs.Words.{has, with_thread}
+use Rattle.dk_base.proofs.ThreadMembers.{first_taken}
 use Rattle.kernel_store.proofs.Forking.{all_withdrawn, none_withdrawn, one_stays, one_withdrawn}
 use Rattle.kernel_store.proofs.beginning.withdraw_firsts.Goals as goal
 

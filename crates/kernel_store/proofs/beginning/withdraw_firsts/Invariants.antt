@@ -1,8 +1,8 @@
 use Rattle.std.proofs.Common.{ℕ, ◌≡◌, filter, length, true}
-use Rattle.kernel_records.specs.Words.{thread_at}
+use Rattle.spec_records.specs.Words.{thread_at}
 use Rattle.proc_table.specs.Words.{is_of}
 use Rattle.server_pool.specs.Words.{change_spares}
-use Rattle.thread_set.specs.Words.{has, members}
+use Rattle.dk_base.specs.Words.{has, members}
 use Rattle.kernel_store.proofs.Forking.{is_to_come}
 use Rattle.kernel_store.proofs.beginning.withdraw_firsts.Given as goal
 

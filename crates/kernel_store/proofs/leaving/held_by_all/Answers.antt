@@ -1,7 +1,7 @@
 use Rattle.std.proofs.Common.{◌≡◌, ⊎_elim, ◌≤◌, ℕ, [], Some, length, sym, ap, ◌∙◌, subst, eq-or-lt_of_le, true, arith}
 use Rattle.dk_base.specs.declared.object.Item.TheVariants as item
 use Rattle.proc_table.specs.Words.{Walks}
-use Rattle.thread_set.specs.Words.{has}
+use Rattle.dk_base.specs.Words.{has}
 use Rattle.exit_paths.proofs.MadeRoom.{numbered_low}
 use Rattle.exit_paths.proofs.Walked.{all_came, earlier, none_zero, of_there}
 use Rattle.kernel_store.specs.Held.{held_at}

@@ -3,7 +3,7 @@ use Rattle.std.specs.List.{list_any}
 use Rattle.dk_base.specs.declared.limits.TheConstants.{THREADS_MAX}
 use Rattle.dk_base.specs.declared.object.Item.TheVariants as item
 use Rattle.proc_table.specs.Words.{Walks}
-use Rattle.thread_set.specs.Words.{has}
+use Rattle.dk_base.specs.Words.{has}
 use Rattle.unref_notice.specs.Words.{is_notice_item}
 use Rattle.kernel_store.specs.Held.{held_at}
 use Rattle.kernel_store.proofs.leaving.held_by_all.Given as goal

@@ -1,4 +1,4 @@
-use Rattle.kernel_records.specs.Words.{leaving_of}
+use Rattle.spec_records.specs.Words.{leaving_of}
 use Rattle.kernel_store.proofs.leaving.leave_notices.Given as goal
 
 -- by what the tests refer to

@@ -1,7 +1,7 @@
 use Rattle.std.proofs.Common.{◌+◌, ◌≤◌, drop, get_or, subst}
 use Rattle.std.proofs.lemmas.List.{drop_more}
-use Rattle.kernel_records.specs.declared.pool.Pool.TheVariants.{Common}
-use Rattle.kernel_records.specs.Words.{pid}
+use Rattle.spec_records.specs.declared.pool.Pool.TheVariants.{Common}
+use Rattle.spec_records.specs.Words.{pid}
 use Rattle.server_pool.specs.Words.{item_room_in, thread_room_in}
 use Rattle.exit_paths.specs.Words.{HasNoLessRoom}
 use Rattle.kernel_store.specs.Noticing.{HaveItemRoomBut}

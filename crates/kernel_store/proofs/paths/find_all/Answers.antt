@@ -1,7 +1,7 @@
 use Rattle.std.proofs.Common.{ap, arith, length, sym, true≢false, ◌∙◌}
-use Rattle.kernel_records.specs.Words.{state_in, thread_at}
+use Rattle.spec_records.specs.Words.{state_in, thread_at}
 use Rattle.proc_table.specs.Words.{is_awaiting}
-use Rattle.thread_set.proofs.Members.{first_taken}
+use Rattle.dk_base.proofs.ThreadMembers.{first_taken}
 use Rattle.kernel_store.specs.Turning.{is_found_at}
 use Rattle.kernel_store.proofs.Knowing.{asked}
 use Rattle.kernel_store.proofs.paths.find_all.Goals as goal

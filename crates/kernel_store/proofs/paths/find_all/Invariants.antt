@@ -1,8 +1,8 @@
 use Rattle.std.proofs.Common.{ℕ, ◌≡◌, length, is_some, false}
 use Rattle.dk_base.specs.declared.number.PathId.{PathId}
-use Rattle.kernel_records.specs.declared.record.ThreadState.TheVariants as is
-use Rattle.kernel_records.specs.Words.{name_in, state_in, thread_at}
-use Rattle.thread_set.specs.Words.{has, members}
+use Rattle.spec_records.specs.declared.record.ThreadState.TheVariants as is
+use Rattle.spec_records.specs.Words.{name_in, state_in, thread_at}
+use Rattle.dk_base.specs.Words.{has, members}
 use Rattle.kernel_store.proofs.paths.find_all.Given as goal
 
 -- the threads that were asked

@@ -1,6 +1,6 @@
 use Rattle.std.proofs.Common.{ap, arith, length, sym, ◌∙◌}
-use Rattle.kernel_records.specs.Words.{state_in, thread_at}
-use Rattle.thread_set.proofs.Members.{first_taken}
+use Rattle.spec_records.specs.Words.{state_in, thread_at}
+use Rattle.dk_base.proofs.ThreadMembers.{first_taken}
 use Rattle.kernel_store.specs.Turning.{has_ended_at}
 use Rattle.kernel_store.proofs.Knowing.{asked}
 use Rattle.kernel_store.proofs.Turns.{ended_not}

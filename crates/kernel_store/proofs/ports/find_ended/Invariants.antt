@@ -1,6 +1,6 @@
 use Rattle.std.proofs.Common.{ℕ, ◌≡◌, length, false}
-use Rattle.kernel_records.specs.Words.{state_in, thread_at}
-use Rattle.thread_set.specs.Words.{has, members}
+use Rattle.spec_records.specs.Words.{state_in, thread_at}
+use Rattle.dk_base.specs.Words.{has, members}
 use Rattle.kernel_store.specs.Turning.{has_ended_at}
 use Rattle.kernel_store.proofs.ports.find_ended.Given as goal
 

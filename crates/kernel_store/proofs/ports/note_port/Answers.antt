@@ -1,5 +1,5 @@
 use Rattle.std.proofs.Common.{ap, arith, length}
-use Rattle.thread_set.proofs.Members.{first_taken}
+use Rattle.dk_base.proofs.ThreadMembers.{first_taken}
 use Rattle.kernel_store.proofs.PortWaits.{none_asked, one_asked, waits_at_port}
 use Rattle.kernel_store.proofs.ports.note_port.Goals as goal
 

@@ -1,5 +1,5 @@
 use Rattle.std.proofs.Common.{length}
-use Rattle.thread_set.specs.Words.{members}
+use Rattle.dk_base.specs.Words.{members}
 use Rattle.kernel_store.proofs.PortWaits.{AreAsked}
 use Rattle.kernel_store.proofs.ports.note_port.Given as goal
 

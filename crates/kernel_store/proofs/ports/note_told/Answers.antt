@@ -1,5 +1,5 @@
 use Rattle.std.proofs.Common.{List, ap, subst, sym}
-use Rattle.kernel_records.specs.Words.{Port}
+use Rattle.spec_records.specs.Words.{Port}
 use Rattle.kernel_store.specs.Turning.{KnowsPorts}
 use Rattle.kernel_store.proofs.Waits.{waits_anew}
 use Rattle.kernel_store.proofs.ports.note_told.Goals as goal

@@ -1,6 +1,6 @@
 use Rattle.std.proofs.Common.{◌≡◌, ◌==◌, ℕ, take}
 use Rattle.std.specs.List.{list_any}
-use Rattle.thread_set.specs.Words.{has}
+use Rattle.dk_base.specs.Words.{has}
 use Rattle.kernel_store.proofs.sets.set_of.Given as goal
 
 abbrev pub invariant-loop-t : goal.invariant-loop-t

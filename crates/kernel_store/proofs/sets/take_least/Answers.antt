@@ -1,5 +1,5 @@
 use Rattle.std.proofs.Common.{ap, arith, length}
-use Rattle.thread_set.proofs.Members.{first_taken}
+use Rattle.dk_base.proofs.ThreadMembers.{first_taken}
 use Rattle.kernel_store.proofs.sets.take_least.Goals as goal
 
 pub returns-clause-fewer : goal.returns-clause-fewer

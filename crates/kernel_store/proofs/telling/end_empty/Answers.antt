@@ -1,6 +1,6 @@
 use Rattle.std.proofs.Common.{◌+◌, ◌∷◌, ap, add-one, drop, get_or, sym, ◌∙◌}
 use Rattle.std.proofs.Math.Seq.{drop-cons}
-use Rattle.act_changes.specs.Ended.{rows_ended}
+use Rattle.law_channels.specs.Ended.{rows_ended}
 use Rattle.dk_base.specs.declared.number.Fd.{Fd}
 use Rattle.kernel_store.specs.Telling.{channels_in, is_empty_in}
 use Rattle.kernel_store.proofs.PortsTold.{rows_left}

@@ -1,6 +1,6 @@
 use Rattle.std.proofs.Common.{◌≡◌, List, drop, filter}
-use Rattle.act_changes.specs.Ended.{rows_ended}
-use Rattle.kernel_records.specs.Words.{Pipe}
+use Rattle.law_channels.specs.Ended.{rows_ended}
+use Rattle.spec_records.specs.Words.{Pipe}
 use Rattle.kernel_store.specs.Telling.{channels_in, is_empty_in}
 use Rattle.kernel_store.proofs.telling.end_empty.Given as goal
 

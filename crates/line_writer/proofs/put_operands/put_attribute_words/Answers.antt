@@ -1,6 +1,6 @@
 use Rattle.std.proofs.Common.{◌++◌, ap, refl, ◌∙◌, get_or}
-use Rattle.script_text.specs.Words.{spaced_words}
-use Rattle.script_line.specs.Words.{attribute_flags, attribute_if, bits_of_flags}
+use Rattle.line_text.specs.Words.{spaced_words}
+use Rattle.line_forms.specs.Words.{attribute_flags, attribute_if, bits_of_flags}
 use Rattle.line_writer.proofs.SpacedWords.{flat_more}
 use Rattle.line_writer.proofs.put_operands.put_attribute_words.Goals as goal
 

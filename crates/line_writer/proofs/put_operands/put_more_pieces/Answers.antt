@@ -1,7 +1,7 @@
 use Rattle.std.proofs.Common.{◌++◌, ◌∷◌, [], ap, ◌∙◌}
-use Rattle.script_text.specs.Words.{spaced_words}
+use Rattle.line_text.specs.Words.{spaced_words}
 use Rattle.std.specs.Prelude.{codes}
-use Rattle.script_line.specs.Words.{joined_piece, piece_word}
+use Rattle.line_forms.specs.Words.{joined_piece, piece_word}
 use Rattle.line_writer.proofs.SpacedWords.{flat_more, after_two}
 use Rattle.line_writer.proofs.put_operands.put_more_pieces.Goals as goal
 

@@ -1,7 +1,7 @@
 use Rattle.std.proofs.Common.{◌≡◌, ◌++◌, take}
 use Rattle.std.specs.Prelude.{flat_map}
-use Rattle.script_line.specs.Words.{joined_piece}
-use Rattle.script_text.specs.Words.{spaced_words}
+use Rattle.line_forms.specs.Words.{joined_piece}
+use Rattle.line_text.specs.Words.{spaced_words}
 use Rattle.line_writer.proofs.put_operands.put_more_pieces.Given as goal
 
 abbrev pub invariant-loop-piece : goal.invariant-loop-piece

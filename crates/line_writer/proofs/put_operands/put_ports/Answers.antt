@@ -1,6 +1,6 @@
 use Rattle.std.proofs.Common.{◌++◌, ◌∷◌, [], ap, ◌∙◌}
-use Rattle.script_text.specs.Words.{spaced_words}
-use Rattle.script_line.specs.Words.{fd_word}
+use Rattle.line_text.specs.Words.{spaced_words}
+use Rattle.line_forms.specs.Words.{fd_word}
 use Rattle.line_writer.proofs.SpacedWords.{map_more}
 use Rattle.line_writer.proofs.put_operands.put_ports.Goals as goal
 

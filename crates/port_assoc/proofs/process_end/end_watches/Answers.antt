@@ -1,5 +1,5 @@
 use Rattle.std.proofs.Common.{◌≡◌, ℕ, ◌+◌, ◌<◌, ◌≤◌, ◌++◌, ◌∷◌, List, [], ◌∙◌, ap, arith, length, length-append, subst, sym}
-use Rattle.kernel_records.specs.Words.{association_number, association_port, is_of_process}
+use Rattle.spec_records.specs.Words.{association_number, association_port, is_of_process}
 use Rattle.port_assoc.specs.Value.{IsWatched}
 use Rattle.port_assoc.proofs.EndedProcess.{all_left, fewer_after, is_there, of_another, of_process, told_next, told_still, watched_next, watched_still}
 use Rattle.port_assoc.proofs.process_end.end_watches.Goals.{in-Some+then-a-process, in-Some+else-a-process, in_default}

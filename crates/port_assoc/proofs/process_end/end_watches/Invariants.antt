@@ -1,6 +1,6 @@
 use Rattle.std.proofs.Common.{◌≡◌, ◌+◌, ◌≤◌, ◌++◌, drop, length}
 use Rattle.dk_base.specs.declared.object.Obj.{Obj}
-use Rattle.kernel_records.specs.Words.{associations_of_process, is_of_process, numbers_of, ports_of}
+use Rattle.spec_records.specs.Words.{associations_of_process, is_of_process, numbers_of, ports_of}
 use Rattle.port_assoc.specs.Value.{IsWatched}
 use Rattle.port_assoc.specs.Watchers.{room_at}
 use Rattle.port_assoc.proofs.EndedProcess.{left_after}

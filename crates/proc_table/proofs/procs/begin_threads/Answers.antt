@@ -1,6 +1,6 @@
 use Rattle.std.proofs.Common.{get_or, slice_set, ap, ◌∙◌, add-one, arith}
-use Rattle.kernel_records.proofs.NumberedLists.{map_first-all}
-use Rattle.kernel_records.specs.Words.{begun_thread}
+use Rattle.spec_records.proofs.NumberedLists.{map_first-all}
+use Rattle.spec_records.specs.Words.{begun_thread}
 use Rattle.proc_table.proofs.Members.{mapped_next}
 use Rattle.proc_table.proofs.procs.begin_threads.Goals as goal
 

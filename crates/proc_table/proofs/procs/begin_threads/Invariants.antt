@@ -1,6 +1,6 @@
 use Rattle.std.proofs.Common.{◌≡◌}
-use Rattle.kernel_records.proofs.NumberedLists.{map_first}
-use Rattle.kernel_records.specs.Words.{begun_thread}
+use Rattle.spec_records.proofs.NumberedLists.{map_first}
+use Rattle.spec_records.specs.Words.{begun_thread}
 use Rattle.proc_table.proofs.procs.begin_threads.Given as goal
 
 abbrev pub invariant-loop-i : goal.invariant-loop-i

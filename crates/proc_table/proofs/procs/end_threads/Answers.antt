@@ -1,5 +1,5 @@
 use Rattle.std.proofs.Common.{get_or, slice_set, ap, ◌∙◌, add-one, arith}
-use Rattle.kernel_records.proofs.NumberedLists.{map_first-all}
+use Rattle.spec_records.proofs.NumberedLists.{map_first-all}
 use Rattle.proc_table.specs.Ends.{ended_where_of}
 use Rattle.proc_table.proofs.Members.{mapped_next}
 use Rattle.proc_table.proofs.procs.end_threads.Goals as goal

@@ -1,5 +1,5 @@
 use Rattle.std.proofs.Common.{◌≡◌}
-use Rattle.kernel_records.proofs.NumberedLists.{map_first}
+use Rattle.spec_records.proofs.NumberedLists.{map_first}
 use Rattle.proc_table.specs.Ends.{ended_where_of}
 use Rattle.proc_table.proofs.procs.end_threads.Given as goal
 

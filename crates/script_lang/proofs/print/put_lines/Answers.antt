@@ -1,6 +1,6 @@
 use Rattle.std.proofs.Common.{◌++◌, ◌∷◌, [], ap, ◌∙◌}
-use Rattle.script_text.specs.Words.{joined_words}
-use Rattle.script_line.specs.Words.{line_words}
+use Rattle.line_text.specs.Words.{joined_words}
+use Rattle.line_forms.specs.Words.{line_words}
 use Rattle.script_lang.proofs.PrintSteps.{body_more}
 use Rattle.script_lang.proofs.print.put_lines.Goals as goal
 

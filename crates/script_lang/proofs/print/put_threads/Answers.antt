@@ -1,6 +1,6 @@
 use Rattle.std.proofs.Common.{◌++◌, ◌∷◌, [], ap, ◌∙◌, append-nil, sym, refl, get_or}
-use Rattle.script_text.specs.Words.{spaced_words}
-use Rattle.script_line.specs.Words.{thread_word}
+use Rattle.line_text.specs.Words.{spaced_words}
+use Rattle.line_forms.specs.Words.{thread_word}
 use Rattle.line_writer.proofs.SpacedWords.{map_more}
 use Rattle.script_lang.proofs.print.put_threads.Goals as goal
 

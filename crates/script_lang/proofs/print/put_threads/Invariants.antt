@@ -1,7 +1,7 @@
 use Rattle.std.proofs.Common.{◌≡◌, ◌++◌, take}
 use Rattle.std.specs.Prelude.{map}
-use Rattle.script_text.specs.Words.{spaced_words}
-use Rattle.script_line.specs.Words.{thread_word}
+use Rattle.line_text.specs.Words.{spaced_words}
+use Rattle.line_forms.specs.Words.{thread_word}
 use Rattle.script_lang.proofs.print.put_threads.Given as goal
 
 abbrev pub invariant-loop-thread : goal.invariant-loop-thread

@@ -1,6 +1,6 @@
 use Rattle.std.proofs.Common.{◌≡◌, drop, flat_map}
-use Rattle.script_text.specs.Words.{with_distinct_names}
-use Rattle.script_line.specs.Words.{fd_variables}
+use Rattle.line_text.specs.Words.{with_distinct_names}
+use Rattle.line_forms.specs.Words.{fd_variables}
 use Rattle.script_lang.proofs.variables.add_of_fds.Given as goal
 
 abbrev pub invariant-loop-fd : goal.invariant-loop-fd

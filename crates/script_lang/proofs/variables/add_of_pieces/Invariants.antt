@@ -1,6 +1,6 @@
 use Rattle.std.proofs.Common.{◌≡◌, drop, flat_map}
-use Rattle.script_text.specs.Words.{with_distinct_names}
-use Rattle.script_line.specs.Words.{piece_variables}
+use Rattle.line_text.specs.Words.{with_distinct_names}
+use Rattle.line_forms.specs.Words.{piece_variables}
 use Rattle.script_lang.proofs.variables.add_of_pieces.Given as goal
 
 abbrev pub invariant-loop-piece : goal.invariant-loop-piece

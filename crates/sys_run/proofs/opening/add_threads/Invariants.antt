@@ -1,5 +1,5 @@
 use Rattle.std.proofs.Common.{◌≡◌, drop, length}
-use Rattle.written_script.specs.Words.{with_script_threads}
+use Rattle.spec_scripts.specs.Words.{with_script_threads}
 use Rattle.sys_run.proofs.opening.add_threads.Given as goal
 
 abbrev pub invariant-loop-below : goal.invariant-loop-below

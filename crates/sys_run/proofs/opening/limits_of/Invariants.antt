@@ -1,6 +1,6 @@
 use Rattle.std.proofs.Common.{◌≡◌, take}
 use Rattle.std.specs.Prelude.{map}
-use Rattle.written_script.specs.Words.{limit_of}
+use Rattle.spec_scripts.specs.Words.{limit_of}
 use Rattle.sys_run.proofs.opening.limits_of.Given as goal
 
 abbrev pub invariant-loop-below : goal.invariant-loop-below

@@ -1,5 +1,5 @@
 use Rattle.std.proofs.Common.{◌≡◌, drop}
-use Rattle.written_script.specs.Words.{with_children}
+use Rattle.spec_scripts.specs.Words.{with_children}
 use Rattle.sys_run.proofs.Opens.{OpensChildren}
 use Rattle.sys_run.proofs.opening.make_children.Given as goal
 

@@ -1,7 +1,7 @@
 use Rattle.std.proofs.Common.{◌≤◌, length, ap, ◌∙◌, subst, sym}
 use Rattle.std.specs.List.{AllByRecursion}
 use Rattle.dk_base.specs.declared.limits.TheConstants.{DESCRIPTORS_MAX}
-use Rattle.written_kernel.specs.Words.{opening}
+use Rattle.spec_kernel.specs.Words.{opening}
 use Rattle.sys_run.proofs.Opens.{events-with_children, narrow_limits, no_event-opening, processes-opening, processes-with_children}
 use Rattle.sys_run.proofs.opening.open.Goals as goal
 

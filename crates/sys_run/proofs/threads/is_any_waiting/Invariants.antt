@@ -1,5 +1,5 @@
 use Rattle.std.proofs.Common.{◌≡◌}
-use Rattle.written_kernel.specs.Words.{waiting_among}
+use Rattle.spec_kernel.specs.Words.{waiting_among}
 use Rattle.sys_run.specs.Threads.{is_any}
 use Rattle.sys_run.proofs.threads.is_any_waiting.Given as goal
 

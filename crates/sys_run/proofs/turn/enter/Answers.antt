@@ -2,7 +2,7 @@ use Rattle.std.proofs.Common.{◌≡◌, ◌⊎◌, ◌∙◌, Some, None, Resul
 use Rattle.std.proofs.lemmas.Bool.{false≢true}
 use Rattle.dk_base.specs.ByNumber.{at_number}
 use Rattle.dk_base.specs.declared.request.Request.TheVariants as request
-use Rattle.written_kernel.specs.Types.{Request}
+use Rattle.spec_kernel.specs.Types.{Request}
 use Rattle.spec_events.specs.Words.{asked_with, line_in, reply_after}
 use Rattle.kernel_core.specs.Entries.{is_cache_line}
 use Rattle.sys_run.specs.NameTables.{AllTablesStandFrom}

@@ -1,5 +1,5 @@
 use Rattle.std.proofs.Common.{◌≡◌, false, sym, ◌∙◌}
-use Rattle.written_kernel.specs.Words.{is_running}
+use Rattle.spec_kernel.specs.Words.{is_running}
 use Rattle.sys_run.proofs.Turning.{may_go_on-kept}
 use Rattle.sys_run.proofs.turn.step.Goals as goal
 

@@ -1,7 +1,7 @@
 use Rattle.std.proofs.Common.{◌≡◌, ℕ, List, [], ◌∷◌, ◌++◌, ap, sym, ◌∙◌, subst}
 use Rattle.ncd_app.specs.Words.{NcdValue}
-use Rattle.written_kernel.specs.Types.{Event}
-use Rattle.written_kernel.specs.Words.{State}
+use Rattle.spec_kernel.specs.Types.{Event}
+use Rattle.spec_kernel.specs.Words.{State}
 use Rattle.script_lang.specs.Words.{ScriptValue}
 use Rattle.thread_machine.specs.declared.machine.Machine.{Machine}
 use Rattle.sys_run.specs.declared.turn.Turned.{Turned}

@@ -1,7 +1,7 @@
 use Rattle.std.proofs.Common.{◌≡◌, ◌+◌, ◌∙◌, Option, ap, length, refl, sym, ◌++◌, ◌∷◌, []}
-use Rattle.written_kernel.specs.Types.{Event, Request}
-use Rattle.written_kernel.specs.Words.{step}
-use Rattle.script_requests.specs.Words.{frame_of}
+use Rattle.spec_kernel.specs.Types.{Event, Request}
+use Rattle.spec_kernel.specs.Words.{step}
+use Rattle.spec_requests.specs.Words.{frame_of}
 use Rattle.sys_run.specs.Sys.{with_journal, state_of_run}
 use Rattle.sys_run.proofs.Journals.{events-history}
 use Rattle.sys_run.proofs.Machines.{stands-frame_after_answer}

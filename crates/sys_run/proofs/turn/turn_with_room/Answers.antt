@@ -1,10 +1,10 @@
 use Rattle.std.proofs.Common.{◌≡◌, ℕ, List, Option, Result, Ok, Err, IfOk, OnErr, subst, sym}
 use Rattle.std.proofs.lemmas.Result.{IfOk-weaker}
 use Rattle.ncd_app.specs.Words.{NcdValue}
-use Rattle.written_kernel.specs.Types.{Event, NoMemory}
-use Rattle.written_kernel.specs.Words.{State}
+use Rattle.spec_kernel.specs.Types.{Event, NoMemory}
+use Rattle.spec_kernel.specs.Words.{State}
 use Rattle.script_lang.specs.Words.{ScriptValue}
-use Rattle.script_requests.specs.Words.{Frame}
+use Rattle.spec_requests.specs.Words.{Frame}
 use Rattle.thread_machine.specs.declared.machine.Machine.{Machine}
 use Rattle.thread_machine.specs.Words.{IsMachine, Stands}
 use Rattle.sys_run.specs.declared.turn.Turned.{Turned}

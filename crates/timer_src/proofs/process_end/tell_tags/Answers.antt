@@ -1,6 +1,6 @@
 use Rattle.std.proofs.Common.{◌≡◌, ◌∙◌, ◌<◌, ◌∷◌, [], ap, arith, false, length, length-append, sym, true}
 use Rattle.std.proofs.lemmas.Bool.Decides.{nat_tests}
-use Rattle.kernel_records.specs.Words.{is_timer_of, tag_of}
+use Rattle.spec_records.specs.Words.{is_timer_of, tag_of}
 use Rattle.timer_src.proofs.Lists.{is_there, left_next, left_still, told_next, told_still}
 use Rattle.timer_src.proofs.process_end.tell_tags.Goals.{in-Some+then-t-process, in-Some+else-t-process, in_default}
 use Rattle.timer_src.proofs.process_end.tell_tags.Goals as goal

@@ -1,5 +1,5 @@
 use Rattle.std.proofs.Common.{◌≡◌, ◌+◌, ◌≤◌, ◌++◌, drop, length}
-use Rattle.kernel_records.specs.Words.{tags_of, timers_of}
+use Rattle.spec_records.specs.Words.{tags_of, timers_of}
 use Rattle.timer_src.proofs.process_end.tell_tags.Given as goal
 
 abbrev pub invariant-loop-place : goal.invariant-loop-place

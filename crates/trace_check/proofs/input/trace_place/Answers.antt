@@ -1,7 +1,7 @@
 use Rattle.std.proofs.Common.{◌≡◌, Bool, true, false, drop, refl, sym, ap, ◌∙◌}
 use Rattle.std.specs.Prelude.{◌&&◌}
 use Rattle.std.proofs.lemmas.Bool.{true≢false}
-use Rattle.written_trace.specs.Words.{begins_with_trace_line}
+use Rattle.spec_traces.specs.Words.{begins_with_trace_line}
 use Rattle.trace_check.proofs.Places.{place_at_start, place_later, rest_whole}
 use Rattle.trace_check.proofs.input.trace_place.Goals as goal
 use Rattle.trace_check.proofs.input.trace_place.Goals.{else-begins-via-then-begins+else-begins_with_trace_line, else-begins-via-else-begins}

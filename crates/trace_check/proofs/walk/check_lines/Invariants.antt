@@ -1,5 +1,5 @@
 use Rattle.std.proofs.Common.{length}
-use Rattle.script_text.specs.Words.{lines_of}
+use Rattle.line_text.specs.Words.{lines_of}
 use Rattle.trace_check.proofs.Steps.{IsVerdictOfRest}
 use Rattle.trace_check.proofs.walk.check_lines.Given as goal
 

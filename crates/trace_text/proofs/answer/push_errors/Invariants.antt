@@ -1,6 +1,6 @@
 use Rattle.std.proofs.Common.{◌≡◌, ◌≤◌, ◌*◌, ◌++◌, take, length}
 use Rattle.std.specs.Prelude.{flat_map}
-use Rattle.script_requests.specs.Words.{spaced_error}
+use Rattle.spec_requests.specs.Words.{spaced_error}
 use Rattle.trace_text.specs.Taken.{TakesAtMost}
 use Rattle.trace_text.proofs.answer.push_errors.Given as goal
 

@@ -1,5 +1,5 @@
 use Rattle.std.proofs.Common.{◌≡◌, ◌≤◌, ◌+◌, ◌*◌, ◌∷◌, ◌++◌, take, length, flat_map}
-use Rattle.script_text.specs.Strings.{quoted_byte}
+use Rattle.line_text.specs.Strings.{quoted_byte}
 use Rattle.trace_text.specs.Taken.{TakesAtMost}
 use Rattle.trace_text.proofs.data_text.push_quoted.Given as goal
 

@@ -1,5 +1,5 @@
 use Rattle.std.proofs.Common.{◌≡◌, ◌++◌, take}
-use Rattle.script_requests.specs.Words.{lines_text}
+use Rattle.spec_requests.specs.Words.{lines_text}
 use Rattle.trace_text.proofs.event_line.push_lines.Given as goal
 
 abbrev pub invariant-loop-event : goal.invariant-loop-event

@@ -1,6 +1,6 @@
 use Rattle.std.proofs.Common.{◌≡◌, ◌++◌, take}
 use Rattle.std.specs.Prelude.{flat_map}
-use Rattle.script_requests.specs.Words.{spaced_name}
+use Rattle.spec_requests.specs.Words.{spaced_name}
 use Rattle.trace_text.proofs.last_line.push_names.Given as goal
 
 abbrev pub invariant-loop-thread : goal.invariant-loop-thread

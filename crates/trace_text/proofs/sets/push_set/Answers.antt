@@ -1,5 +1,5 @@
 use Rattle.std.proofs.Common.{refl, ◌∙◌, get_or, arith}
-use Rattle.script_line.specs.Words.{attribute_flags, bits_of_flags, flag_word}
+use Rattle.line_forms.specs.Words.{attribute_flags, bits_of_flags, flag_word}
 use Rattle.trace_text.proofs.PlusJoined.{set_turn, unset_turn}
 use Rattle.trace_text.proofs.sets.push_set.Goals as goal
 use Rattle.trace_text.proofs.sets.push_set.Goals.{then-set-bits-ne0, else-set-bits-ne0}

@@ -1,7 +1,7 @@
 use Rattle.std.proofs.Common.{◌≡◌, ◌≤◌, ◌*◌, ◌++◌, take}
 use Rattle.std.specs.Prelude.{flat_map}
 use Rattle.std.specs.List.{join_with_byte}
-use Rattle.script_line.specs.Words.{attribute_flags, attribute_if, bits_of_flags}
+use Rattle.line_forms.specs.Words.{attribute_flags, attribute_if, bits_of_flags}
 use Rattle.trace_text.specs.Taken.{TakesAtMost}
 use Rattle.trace_text.proofs.PlusJoined.{has_none}
 use Rattle.trace_text.proofs.sets.push_set.Given as goal

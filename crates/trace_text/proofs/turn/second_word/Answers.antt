@@ -1,7 +1,7 @@
 use Rattle.std.proofs.Common.{◌==◌, rules, tests}
 use Rattle.std.proofs.lemmas.Iterator.Consumers.{nth_from_yields_List, YieldsList-from_filter}
 use Rattle.std.proofs.lemmas.Iterator.Splits.{YieldsList-from_slice_split}
-use Rattle.script_requests.specs.Words.{is_some_word}
+use Rattle.spec_requests.specs.Words.{is_some_word}
 use Rattle.trace_text.proofs.turn.second_word.Goals as goal
 
 pub returns : goal.returns

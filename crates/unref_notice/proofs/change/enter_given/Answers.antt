@@ -1,7 +1,7 @@
 use Rattle.std.proofs.Common.{ap, sym, ◌∙◌}
-use Rattle.kernel_records.specs.declared.record.NoticeStage.TheVariants as stage
-use Rattle.kernel_records.specs.Words.{is_given_notice_as, notice_at, tid}
-use Rattle.kernel_records.proofs.Places.{changed_there, changed_nowhere, found_there, find_nowhere}
+use Rattle.spec_records.specs.declared.record.NoticeStage.TheVariants as stage
+use Rattle.spec_records.specs.Words.{is_given_notice_as, notice_at, tid}
+use Rattle.spec_records.proofs.Places.{changed_there, changed_nowhere, found_there, find_nowhere}
 use Rattle.unref_notice.specs.DoorCounts.{door_in}
 use Rattle.unref_notice.proofs.DoorCounts.{doors_set}
 use Rattle.unref_notice.proofs.change.enter_given.Goals as goal

@@ -1,6 +1,6 @@
 use Rattle.std.proofs.Common.{ap, sym, ◌∙◌}
-use Rattle.kernel_records.specs.declared.record.Notice.{Notice}
-use Rattle.kernel_records.specs.Words.{is_entered_stage, is_notice_entered_by, notice_number}
+use Rattle.spec_records.specs.declared.record.Notice.{Notice}
+use Rattle.spec_records.specs.Words.{is_entered_stage, is_notice_entered_by, notice_number}
 use Rattle.unref_notice.specs.Left.{is_notice_as}
 use Rattle.unref_notice.proofs.Items.{entered_is, enters_none, no_notice}
 use Rattle.unref_notice.proofs.Leaving.{item_is}

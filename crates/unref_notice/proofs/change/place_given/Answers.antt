@@ -1,7 +1,7 @@
 use Rattle.std.proofs.Common.{◌&&◌, ap, ap₂, sym, ◌∙◌}
 use Rattle.std.proofs.lemmas.List.Quantifiers.{position-Some}
-use Rattle.kernel_records.specs.declared.record.Notice.{Notice}
-use Rattle.kernel_records.specs.Words.{is_given_notice_as, is_given_stage, is_numbered, notice_number}
+use Rattle.spec_records.specs.declared.record.Notice.{Notice}
+use Rattle.spec_records.specs.Words.{is_given_notice_as, is_given_stage, is_numbered, notice_number}
 use Rattle.unref_notice.proofs.Items.{both_left, no_notice, same_number}
 use Rattle.unref_notice.proofs.Places.{found_here, found_nowhere, found_other}
 use Rattle.unref_notice.proofs.change.place_given.Goals as goal

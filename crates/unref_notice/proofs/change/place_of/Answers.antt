@@ -1,7 +1,7 @@
 use Rattle.std.proofs.Common.{nat_lt, arith, rules, ap, sym, ◌∙◌}
 use Rattle.std.proofs.lemmas.List.Sorted.{IsPartitionPoint-from_clause}
-use Rattle.kernel_records.specs.declared.record.Notice.{Notice}
-use Rattle.kernel_records.specs.Words.{notice_number}
+use Rattle.spec_records.specs.declared.record.Notice.{Notice}
+use Rattle.spec_records.specs.Words.{notice_number}
 use Rattle.unref_notice.proofs.Items.{no_notice}
 use Rattle.unref_notice.proofs.Places.{number_here, number_nowhere, number_past, parted}
 use Rattle.unref_notice.proofs.change.place_of.Goals.{else-place-len-via-then-place-len+else-index-n, else-place-len-via-else-place-len}

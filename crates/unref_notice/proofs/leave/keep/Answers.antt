@@ -1,6 +1,6 @@
 use Rattle.std.proofs.Common.{arith, ap, filter, sym, take, refl, ◌∷◌, [], ◌∙◌}
 use Rattle.std.proofs.lemmas.List.{take_all, take_more}
-use Rattle.kernel_records.specs.Words.{is_kept_notice}
+use Rattle.spec_records.specs.Words.{is_kept_notice}
 use Rattle.unref_notice.specs.Left.{is_kept_among}
 use Rattle.unref_notice.proofs.Leaving.{kept_twice, none_taken}
 use Rattle.unref_notice.proofs.leave.keep.Goals as goal

@@ -1,7 +1,7 @@
 use Rattle.std.proofs.Common.{◌≡◌, ◌≤◌, ℕ, List, filter, map, take}
 use Rattle.std.specs.VecDeque.{deque_capacity, deque_len}
-use Rattle.kernel_records.specs.declared.record.Door.{Door}
-use Rattle.kernel_records.specs.Words.{AnswersAs, IsAscending, is_kept_notice, notice_number}
+use Rattle.spec_records.specs.declared.record.Door.{Door}
+use Rattle.spec_records.specs.Words.{AnswersAs, IsAscending, is_kept_notice, notice_number}
 use Rattle.unref_notice.specs.DoorCounts.{CountsDoors, door_in}
 use Rattle.unref_notice.specs.Left.{is_kept_among, takes_many_in}
 use Rattle.unref_notice.proofs.leave.keep.Given as goal

@@ -1,6 +1,6 @@
 use Rattle.std.proofs.Common.{ℕ, ◌==◌, ◌-◌, if◌then◌else◌, map, ◌≡◌, ap, remove, rules, subst, sym, ◌∙◌}
-use Rattle.kernel_records.specs.Words.{IsAscending, is_kept_notice, notice_number}
-use Rattle.kernel_records.specs.declared.record.Notice.{Notice}
+use Rattle.spec_records.specs.Words.{IsAscending, is_kept_notice, notice_number}
+use Rattle.spec_records.specs.declared.record.Notice.{Notice}
 use Rattle.unref_notice.specs.DoorCounts.{CountsDoors, door_in, notices_of}
 use Rattle.unref_notice.proofs.DoorCounts.{counts_removed}
 use Rattle.unref_notice.proofs.Items.{no_notice}

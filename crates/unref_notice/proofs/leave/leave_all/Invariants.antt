@@ -1,6 +1,6 @@
 use Rattle.std.proofs.Common.{◌≡◌, ℕ, map, take}
 use Rattle.std.specs.VecDeque.{deque_capacity, deque_len}
-use Rattle.kernel_records.specs.Words.{AnswersAs, IsAscending, Leaving, notice_number}
+use Rattle.spec_records.specs.Words.{AnswersAs, IsAscending, Leaving, notice_number}
 use Rattle.unref_notice.specs.DoorCounts.{door_in}
 use Rattle.unref_notice.specs.Left.{left_among}
 use Rattle.unref_notice.proofs.leave.leave_all.Given as goal

@@ -1,6 +1,6 @@
 use Rattle.std.proofs.Common.{ap, set, sym, ◌∙◌}
 use Rattle.std.proofs.lemmas.List.Quantifiers.{position-Some}
-use Rattle.kernel_records.specs.Words.{left_notice, notice_number}
+use Rattle.spec_records.specs.Words.{left_notice, notice_number}
 use Rattle.unref_notice.specs.Left.{is_notice_as}
 use Rattle.unref_notice.specs.DoorCounts.{door_in}
 use Rattle.unref_notice.proofs.DoorCounts.{doors_set}

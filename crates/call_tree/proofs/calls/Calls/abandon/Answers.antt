@@ -1,6 +1,6 @@
 use Rattle.std.proofs.Common.{ap, ap₂, filter, sym, ◌∙◌}
-use Rattle.kernel_records.specs.Words.{is_live_call, left_call}
-use Rattle.call_records.specs.Words.{calls_in, with_call}
+use Rattle.spec_records.specs.Words.{is_live_call, left_call}
+use Rattle.call_tree.specs.Words.{calls_in, with_call}
 use Rattle.call_tree.specs.Calls.{cancelled_by, dropped_objects, is_called_by, leaving_for, parked_thread}
 use Rattle.call_tree.proofs.Keys.{changes, finds, found, looked_up, of_caller}
 use Rattle.call_tree.proofs.Ties.{is_of_true}

@@ -1,7 +1,7 @@
 use Rattle.std.proofs.Common.{ap, filter, refl, sym, ◌∙◌}
-use Rattle.kernel_records.specs.declared.record.CallStage.TheVariants as stage
-use Rattle.kernel_records.specs.Words.{is_live_call, is_to_collect, without_arguments_at}
-use Rattle.call_records.specs.Words.{is_call}
+use Rattle.spec_records.specs.declared.record.CallStage.TheVariants as stage
+use Rattle.spec_records.specs.Words.{is_live_call, is_to_collect, without_arguments_at}
+use Rattle.call_tree.specs.Words.{is_call}
 use Rattle.call_tree.specs.Calls.{is_called_by, outcome_in}
 use Rattle.call_tree.proofs.Looks.{same_some}
 use Rattle.call_tree.proofs.Keys.{changes, finds, found, known_there, looked_up, narrow_first, of_caller, of_number, only_narrow, there}

@@ -1,5 +1,5 @@
 use Rattle.std.proofs.Common.{ap}
-use Rattle.call_records.specs.Words.{is_call}
+use Rattle.call_tree.specs.Words.{is_call}
 use Rattle.call_tree.specs.Walks.{door_in}
 use Rattle.call_tree.proofs.Keys.{finds, found, looked_up, of_number}
 use Rattle.call_tree.proofs.calls.Calls.door_of.Goals as goal

@@ -1,6 +1,6 @@
 use Rattle.std.proofs.Common.{ap, sym}
-use Rattle.kernel_records.specs.declared.record.CallStage.TheVariants as stage
-use Rattle.kernel_records.specs.Words.{is_served_by, without_arguments_at}
+use Rattle.spec_records.specs.declared.record.CallStage.TheVariants as stage
+use Rattle.spec_records.specs.Words.{is_served_by, without_arguments_at}
 use Rattle.call_tree.proofs.Keys.{changes, found, known_there, looked_up, narrow_client, of_server, only_narrow, served_moved, there}
 use Rattle.call_tree.proofs.calls.Calls.finish.Goals as goal
 

@@ -1,7 +1,7 @@
 use Rattle.std.proofs.Common.{ap, sym}
-use Rattle.kernel_records.specs.declared.record.CallStage.TheVariants as stage
-use Rattle.kernel_records.specs.Words.{at_stage, is_queued, tid}
-use Rattle.call_records.specs.Words.{is_call}
+use Rattle.spec_records.specs.declared.record.CallStage.TheVariants as stage
+use Rattle.spec_records.specs.Words.{at_stage, is_queued, tid}
+use Rattle.call_tree.specs.Words.{is_call}
 use Rattle.call_tree.proofs.Keys.{changes, known_there, looked_up, narrow_first, of_number, only_narrow, queued_is, there}
 use Rattle.call_tree.proofs.Ties.{and_second}
 use Rattle.call_tree.proofs.calls.Calls.give.Goals as goal

@@ -1,6 +1,6 @@
 use Rattle.std.proofs.Common.{ap, is_some, sym, ◌∙◌}
 use Rattle.call_tree.specs.Calls.{is_given}
-use Rattle.call_records.specs.Words.{is_call}
+use Rattle.call_tree.specs.Words.{is_call}
 use Rattle.call_tree.proofs.Keys.{found_is, narrow_first, nowhere, of_number}
 use Rattle.call_tree.proofs.calls.Calls.is_given.Goals as goal
 

@@ -1,6 +1,6 @@
 use Rattle.std.proofs.Common.{ap, is_some, sym, ◌∙◌}
-use Rattle.kernel_records.specs.Words.{is_queued}
-use Rattle.call_records.specs.Words.{is_call}
+use Rattle.spec_records.specs.Words.{is_queued}
+use Rattle.call_tree.specs.Words.{is_call}
 use Rattle.call_tree.proofs.Keys.{found_is, narrow_first, nowhere, of_number}
 use Rattle.call_tree.proofs.calls.Calls.is_queued.Goals as goal
 

@@ -1,5 +1,5 @@
 use Rattle.std.proofs.Common.{ap, length, sym, ◌∙◌}
-use Rattle.call_records.specs.Words.{is_call}
+use Rattle.call_tree.specs.Words.{is_call}
 use Rattle.call_tree.specs.Calls.{is_waiting}
 use Rattle.call_tree.specs.Walks.{argument_objects}
 use Rattle.call_tree.proofs.Keys.{arguments_of, finds, found, known_there, looked_up, narrow_first, of_number, there, waiting_open}

@@ -1,6 +1,6 @@
 use Rattle.std.proofs.Common.{sym, ◌∙◌}
-use Rattle.kernel_records.specs.Words.{is_to_collect}
-use Rattle.call_records.specs.Words.{is_call}
+use Rattle.spec_records.specs.Words.{is_to_collect}
+use Rattle.call_tree.specs.Words.{is_call}
 use Rattle.call_tree.proofs.Keys.{finds, misses, narrow_first, nowhere, of_number, only_narrow}
 use Rattle.call_tree.proofs.calls.Calls.ready_call.Goals as goal
 

@@ -1,7 +1,7 @@
 use Rattle.std.proofs.Common.{ap, sym, ◌∙◌}
-use Rattle.kernel_records.specs.declared.record.CallStage.TheVariants as stage
-use Rattle.kernel_records.specs.Words.{is_given_to, without_arguments_at}
-use Rattle.call_records.specs.Words.{is_call}
+use Rattle.spec_records.specs.declared.record.CallStage.TheVariants as stage
+use Rattle.spec_records.specs.Words.{is_given_to, without_arguments_at}
+use Rattle.call_tree.specs.Words.{is_call}
 use Rattle.call_tree.specs.Calls.{is_waiting}
 use Rattle.call_tree.specs.Walks.{argument_objects}
 use Rattle.call_tree.proofs.Keys.{arguments_of, changes, finds, found, known_there, looked_up, narrow_first, of_number, only_narrow, there, waiting_moved, waiting_open}

@@ -1,8 +1,8 @@
 use Rattle.std.proofs.Common.{ap, sym, ◌∙◌}
 use Rattle.dk_base.specs.declared.error.Errno.TheVariants.{EINTR}
-use Rattle.kernel_records.specs.declared.record.CallStage.TheVariants as stage
-use Rattle.kernel_records.specs.Words.{is_served_by, without_arguments_at}
-use Rattle.kernel_records.proofs.Places.{change_first-none}
+use Rattle.spec_records.specs.declared.record.CallStage.TheVariants as stage
+use Rattle.spec_records.specs.Words.{is_served_by, without_arguments_at}
+use Rattle.spec_records.proofs.Places.{change_first-none}
 use Rattle.call_tree.specs.Walks.{argument_objects}
 use Rattle.call_tree.proofs.Keys.{changes, finds, found, of_server, served_arguments, served_moved}
 use Rattle.call_tree.proofs.calls.Calls.server_left.Goals as goal

@@ -1,6 +1,6 @@
 use Rattle.std.proofs.Common.{refl}
-use Rattle.kernel_records.specs.declared.record.CallStage.TheVariants as stage
-use Rattle.kernel_records.specs.Words.{tid, without_arguments_at}
+use Rattle.spec_records.specs.declared.record.CallStage.TheVariants as stage
+use Rattle.spec_records.specs.Words.{tid, without_arguments_at}
 use Rattle.call_tree.proofs.Changes.{look_changed, look_kept}
 use Rattle.call_tree.proofs.Collecting.{collecting_kept, given_waits}
 use Rattle.call_tree.proofs.Whole.{entered, given_stage, given_there}

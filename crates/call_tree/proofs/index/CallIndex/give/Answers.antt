@@ -1,6 +1,6 @@
 use Rattle.std.proofs.Common.{ap, arith, refl, sym}
-use Rattle.kernel_records.specs.declared.record.CallStage.TheVariants as stage
-use Rattle.kernel_records.specs.Words.{at_stage, is_to_collect, tid}
+use Rattle.spec_records.specs.declared.record.CallStage.TheVariants as stage
+use Rattle.spec_records.specs.Words.{at_stage, is_to_collect, tid}
 use Rattle.call_tree.proofs.Changes.{look_changed, look_kept}
 use Rattle.call_tree.proofs.Collecting.{collecting_kept}
 use Rattle.call_tree.proofs.Whole.{can_link, given, queued_there}

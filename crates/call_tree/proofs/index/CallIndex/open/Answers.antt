@@ -1,5 +1,5 @@
 use Rattle.std.proofs.Common.{◌+◌, ap, arith}
-use Rattle.kernel_records.specs.Words.{is_to_collect}
+use Rattle.spec_records.specs.Words.{is_to_collect}
 use Rattle.call_tree.proofs.Changes.{look_new, look_old}
 use Rattle.call_tree.proofs.Collecting.{collecting_opened}
 use Rattle.call_tree.proofs.Whole.{caller_free, opened, set_sets}

@@ -1,7 +1,7 @@
 use Rattle.std.proofs.Common.{◌≡◌, ◌∙◌, ◌+◌, ◌++◌, [], ◌∷◌, length, ap, arith, rules}
 use Rattle.std.proofs.lemmas.List.{length-map, map-append}
-use Rattle.kernel_records.specs.declared.record.Door.{Door}
-use Rattle.kernel_records.specs.Words.{new_door}
+use Rattle.spec_records.specs.declared.record.Door.{Door}
+use Rattle.spec_records.specs.Words.{new_door}
 use Rattle.door_object.specs.OwnerLists.{as_made, made}
 use Rattle.door_object.proofs.OwnerLists.{AreListed-pushed}
 use Rattle.door_object.proofs.doors.Doors.create_allowed.Goals as goal

@@ -1,6 +1,6 @@
 use Rattle.std.proofs.Common.{◌∙◌, ap}
 use Rattle.std.proofs.lemmas.Option.{get_or_from_slice_get}
-use Rattle.kernel_records.specs.Words.{has_common_door}
+use Rattle.spec_records.specs.Words.{has_common_door}
 use Rattle.door_object.specs.OwnerLists.{as_made}
 use Rattle.door_object.proofs.AsMade.{has_common_door-as_made}
 use Rattle.door_object.proofs.doors.Doors.has_common.Goals as goal

@@ -1,5 +1,5 @@
 use Rattle.std.proofs.Common.{◌∙◌, ap}
-use Rattle.kernel_records.specs.Words.{notice_doors}
+use Rattle.spec_records.specs.Words.{notice_doors}
 use Rattle.door_object.proofs.AsMade.{notice_doors-as_made}
 use Rattle.door_object.proofs.doors.Doors.notice_doors.Goals as goal
 

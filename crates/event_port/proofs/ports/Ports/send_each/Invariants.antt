@@ -1,5 +1,5 @@
 use Rattle.std.proofs.Common.{◌≡◌, ◌+◌, ◌-◌, ◌≤◌, ◌++◌, All, drop, length, take}
-use Rattle.kernel_records.specs.Words.{send_each, send_errors}
+use Rattle.spec_records.specs.Words.{send_each, send_errors}
 use Rattle.event_port.specs.Words.{HasRoomAt, KeepsRoomButNamed}
 use Rattle.event_port.proofs.ports.Ports.send_each.Given as goal
 

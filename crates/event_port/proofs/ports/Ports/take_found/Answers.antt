@@ -1,6 +1,6 @@
 use Rattle.std.proofs.Common.{◌≡◌, ◌++◌, ◌∙◌, ap, rules, sym}
 use Rattle.std.proofs.lemmas.List.{append-nil}
-use Rattle.kernel_records.specs.Words.{associations_of, new_port, port_of, records_of}
+use Rattle.spec_records.specs.Words.{associations_of, new_port, port_of, records_of}
 use Rattle.event_port.proofs.Changed.{no_events, no_port_read}
 use Rattle.event_port.proofs.ports.Ports.take_found.Goals as goal
 

@@ -1,6 +1,6 @@
 use Rattle.std.proofs.Common.{◌≡◌, None, Some, ap, arith, find, is_some, position, sym, ◌∙◌}
-use Rattle.kernel_records.specs.Words.{grown_event, is_timer_event}
-use Rattle.kernel_records.proofs.Places.{changed_nowhere, changed_there, find_nowhere, found_there}
+use Rattle.spec_records.specs.Words.{grown_event, is_timer_event}
+use Rattle.spec_records.proofs.Places.{changed_nowhere, changed_there, find_nowhere, found_there}
 use Rattle.event_port.specs.Words.{count_in}
 use Rattle.event_port.proofs.Timers.{any_found, with_queue}
 use Rattle.event_port.proofs.queue.PortQueue.grow.Goals as goal

@@ -1,7 +1,7 @@
 use Rattle.std.proofs.Common.{◌++◌, ◌∙◌, List, ap, ap₂, arith, take}
 use Rattle.std.proofs.lemmas.List.{drop-drop}
-use Rattle.kernel_records.specs.declared.port.Queued.{Queued}
-use Rattle.kernel_records.specs.Words.{Port, associations_of, records_of}
+use Rattle.spec_records.specs.declared.port.Queued.{Queued}
+use Rattle.spec_records.specs.Words.{Port, associations_of, records_of}
 use Rattle.event_port.specs.Words.{without_oldest}
 use Rattle.event_port.proofs.Taken.{associations_more, records_more}
 use Rattle.event_port.proofs.queue.PortQueue.take_many.Goals as goal

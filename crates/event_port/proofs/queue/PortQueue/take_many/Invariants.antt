@@ -1,5 +1,5 @@
 use Rattle.std.proofs.Common.{◌≡◌, ◌+◌, ◌≤◌, ◌++◌, length, take}
-use Rattle.kernel_records.specs.Words.{associations_of, records_of}
+use Rattle.spec_records.specs.Words.{associations_of, records_of}
 use Rattle.event_port.specs.Words.{without_oldest}
 use Rattle.event_port.proofs.queue.PortQueue.take_many.Given as goal
 

@@ -1,5 +1,5 @@
 use Rattle.std.proofs.Common.{arith}
-use Rattle.kernel_records.specs.Words.{is_other_event, is_user_event}
+use Rattle.spec_records.specs.Words.{is_other_event, is_user_event}
 use Rattle.event_port.proofs.Taken.{fewer_left}
 use Rattle.event_port.proofs.queue.PortQueue.withdraw.Goals as goal
 

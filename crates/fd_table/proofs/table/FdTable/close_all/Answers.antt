@@ -1,6 +1,6 @@
 use Rattle.std.proofs.Common.{length, sym, ap, ◌∙◌, arith}
 use Rattle.std.proofs.lemmas.List.{length-map}
-use Rattle.kernel_records.specs.Words.{close_table, free_row, free_rows}
+use Rattle.spec_records.specs.Words.{close_table, free_row, free_rows}
 use Rattle.fd_table.specs.Rows.{lowest_row}
 use Rattle.fd_table.proofs.Listed.{closed_rows}
 use Rattle.fd_table.proofs.Lowest.{free_all_closed, lowest_all_closed}

@@ -1,6 +1,6 @@
 use Rattle.std.proofs.Common.{◌≡◌, ℕ, Option, Some, None, false, is_none, is_some, true, refl, sym, ap, ◌∙◌}
 use Rattle.dk_base.specs.declared.number.Fd.{Fd}
-use Rattle.kernel_records.specs.Words.{lowest_free}
+use Rattle.spec_records.specs.Words.{lowest_free}
 use Rattle.fd_table.proofs.Lowest.{full_none, some_free, some_place}
 use Rattle.fd_table.proofs.table.FdTable.insert.Goals as goal
 

@@ -1,5 +1,5 @@
 use Rattle.std.proofs.Common.{◌≡◌, ◌+◌, ◌≤◌, ◌++◌, length, drop}
-use Rattle.kernel_records.specs.Words.{free_rows, insert_rows, new_descriptors}
+use Rattle.spec_records.specs.Words.{free_rows, insert_rows, new_descriptors}
 use Rattle.fd_table.proofs.table.FdTable.insert_each.Given as goal
 
 abbrev pub invariant-loop-object : goal.invariant-loop-object

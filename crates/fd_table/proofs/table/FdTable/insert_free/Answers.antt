@@ -1,5 +1,5 @@
 use Rattle.std.proofs.Common.{◌<◌, Some, length, sym, ap, ◌∙◌, arith, length-set}
-use Rattle.kernel_records.specs.Words.{descriptor, free_place, free_rows, insert_row}
+use Rattle.spec_records.specs.Words.{descriptor, free_place, free_rows, insert_row}
 use Rattle.fd_table.specs.Rows.{lowest_row}
 use Rattle.fd_table.proofs.Lowest.{free_there, free_taken_at, lowest_taken_at, place_is, row_taken, some_free}
 use Rattle.fd_table.proofs.table.FdTable.insert_free.Goals as goal

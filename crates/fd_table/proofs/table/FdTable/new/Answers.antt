@@ -1,7 +1,7 @@
 use Rattle.std.proofs.Common.{◌≡◌, Option, None, length, sym, ap, ◌∙◌, arith, rules}
 use Rattle.std.proofs.lemmas.List.{length-replicate}
 use Rattle.dk_base.specs.declared.object.Obj.{Obj}
-use Rattle.kernel_records.specs.Words.{empty_table, free_rows}
+use Rattle.spec_records.specs.Words.{empty_table, free_rows}
 use Rattle.fd_table.specs.Rows.{lowest_row}
 use Rattle.fd_table.proofs.Lowest.{free_empty, lowest_empty}
 use Rattle.fd_table.proofs.table.FdTable.new.Goals as goal

@@ -1,6 +1,6 @@
 use Rattle.std.proofs.Common.{◌≡◌, ◌<◌, List, Option, Some, None, is_none, true, length, get_or, sym, ap, ◌∙◌, arith, length-set}
 use Rattle.dk_base.specs.declared.object.Obj.{Obj}
-use Rattle.kernel_records.specs.Words.{object_named}
+use Rattle.spec_records.specs.Words.{object_named}
 use Rattle.fd_table.specs.Rows.{lowest_row}
 use Rattle.fd_table.proofs.Lowest.{free_put, lowest_put, lowest_taken_at, others_put, row_free, there_put}
 use Rattle.fd_table.proofs.table.FdTable.put.Goals as goal

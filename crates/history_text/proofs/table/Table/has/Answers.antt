@@ -1,5 +1,5 @@
 use Rattle.std.proofs.Common.{sym, ◌∙◌}
-use Rattle.script_line.proofs.PathSearch.{named_any}
+use Rattle.line_forms.proofs.PathSearch.{named_any}
 use Rattle.history_text.proofs.table.Table.has.Goals as goal
 
 pub returns : goal.returns

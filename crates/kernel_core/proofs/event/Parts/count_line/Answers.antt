@@ -1,5 +1,5 @@
 use Rattle.std.proofs.Common.{ap}
-use Rattle.written_kernel.specs.Words.{State}
+use Rattle.spec_kernel.specs.Words.{State}
 use Rattle.kernel_core.proofs.Finishing.{rest_counted}
 use Rattle.kernel_core.proofs.event.Parts.count_line.Goals as goal
 

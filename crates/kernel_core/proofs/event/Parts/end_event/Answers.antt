@@ -1,8 +1,8 @@
 use Rattle.std.proofs.Common.{◌≡◌, ◌≤◌, ◌++◌, ap, arith, length, map, sym, ◌∙◌}
 use Rattle.dk_base.specs.declared.limits.TheConstants.{THREADS_MAX}
-use Rattle.kernel_records.specs.Words.{tid}
-use Rattle.thread_set.specs.Words.{members}
-use Rattle.written_kernel.specs.Words.{State}
+use Rattle.spec_records.specs.Words.{tid}
+use Rattle.dk_base.specs.Words.{members}
+use Rattle.spec_kernel.specs.Words.{State}
 use Rattle.kernel_store.specs.Words.{stored_state}
 use Rattle.kernel_core.specs.declared.event.Parts.{Parts}
 use Rattle.kernel_core.specs.Woken.{turned_threads}

@@ -1,6 +1,6 @@
 use Rattle.std.proofs.Common.{◌≡◌, ℕ, ◌+◌, ap, arith, length, subst, sym, ◌∙◌}
 use Rattle.dk_base.specs.Words.{RoomValue}
-use Rattle.written_kernel.specs.Words.{State}
+use Rattle.spec_kernel.specs.Words.{State}
 use Rattle.kernel_store.specs.Words.{IsAtRest, stored_state}
 use Rattle.kernel_store.specs.declared.told.TellingRooms.{TellingRooms}
 use Rattle.kernel_core.proofs.Finishing.{ending_room, events_settled, left_to_tell, made_settled, ready_settled, rest_told, room_acted, settled_acted, step_settled, within_acted}

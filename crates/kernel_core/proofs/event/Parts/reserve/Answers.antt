@@ -1,9 +1,9 @@
 use Rattle.std.proofs.Common.{◌≡◌, ◌+◌, ◌≤◌, ap, arith, length, rules, subst, ◌∙◌}
 use Rattle.std.proofs.lemmas.List.Sums.{count_by-le-length, length-filter}
-use Rattle.kernel_records.specs.Words.{notice_doors}
+use Rattle.spec_records.specs.Words.{notice_doors}
 use Rattle.kernel_store.specs.Words.{HasRoomToTell, stored_state}
 use Rattle.kernel_core.specs.Watched.{is_watched, watched}
-use Rattle.written_kernel.specs.Words.{State, timers_in}
+use Rattle.spec_kernel.specs.Words.{State, timers_in}
 use Rattle.kernel_core.proofs.Finishing.{rest_reserved, rest_started}
 use Rattle.kernel_core.proofs.event.Parts.reserve.Goals as goal
 

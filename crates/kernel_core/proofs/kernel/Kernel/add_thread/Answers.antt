@@ -1,8 +1,8 @@
 use Rattle.std.proofs.Common.{◌≡◌, ◌<◌, ap, arith, length, subst, sym, ◌∙◌}
 use Rattle.dk_base.specs.declared.limits.TheConstants.{THREADS_MAX}
-use Rattle.kernel_records.specs.Words.{ProcessTable}
-use Rattle.written_kernel.specs.Words.{State}
-use Rattle.written_kernel.proofs.Opening.{IsDeclaredIn}
+use Rattle.spec_records.specs.Words.{ProcessTable}
+use Rattle.spec_kernel.specs.Words.{State}
+use Rattle.spec_kernel.proofs.Opening.{IsDeclaredIn}
 use Rattle.kernel_store.specs.Words.{stored_state}
 use Rattle.kernel_core.proofs.Kept.{opening_stands, thread_result}
 use Rattle.kernel_core.proofs.kernel.Kernel.add_thread.Goals as goal

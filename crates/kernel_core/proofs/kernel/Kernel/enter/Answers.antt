@@ -1,5 +1,5 @@
 use Rattle.std.proofs.Common.{◌∙◌, Some, subst, sym}
-use Rattle.written_kernel.specs.Words.{IsFit}
+use Rattle.spec_kernel.specs.Words.{IsFit}
 use Rattle.kernel_store.specs.Words.{stored_state}
 use Rattle.kernel_core.proofs.Forking.{may_fork}
 use Rattle.kernel_core.proofs.Kept.{can_step, kept_result, line_counts, none_lost, noticing, refused_result, refused_stands, turning}

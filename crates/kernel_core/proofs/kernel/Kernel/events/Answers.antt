@@ -1,6 +1,6 @@
 use Rattle.std.proofs.Common.{◌≡◌, ◌≤◌, ◌*◌, ℕ, subst, sym}
 use Rattle.dk_base.specs.declared.limits.TheConstants.{ADVANCE_MAX}
-use Rattle.written_kernel.specs.Words.{IsOpening, State}
+use Rattle.spec_kernel.specs.Words.{IsOpening, State}
 use Rattle.kernel_store.specs.Words.{stored_state}
 use Rattle.kernel_core.proofs.Kept.{clock_kept}
 use Rattle.kernel_core.proofs.kernel.Kernel.events.Goals as goal

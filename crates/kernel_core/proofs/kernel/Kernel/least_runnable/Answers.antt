@@ -1,6 +1,6 @@
 use Rattle.std.proofs.Common.{ap, ◌∙◌}
 use Rattle.kernel_store.specs.Words.{stored_state}
-use Rattle.written_kernel.specs.Words.{least_runnable}
+use Rattle.spec_kernel.specs.Words.{least_runnable}
 use Rattle.kernel_core.proofs.Kept.{turns_kept}
 use Rattle.kernel_core.proofs.Readers.{least_runnable_stands}
 use Rattle.kernel_core.proofs.Turning.{least_is}

@@ -1,6 +1,6 @@
 use Rattle.std.proofs.Common.{◌≡◌, ◌<◌, ◌≤◌, ap, arith, false, length, subst, sym, ◌∙◌}
 use Rattle.std.specs.List.{list_any}
-use Rattle.written_kernel.specs.Words.{State, is_thread_of, table_of}
+use Rattle.spec_kernel.specs.Words.{State, is_thread_of, table_of}
 use Rattle.kernel_core.specs.Within.{IsWithin}
 use Rattle.kernel_store.specs.Words.{stored_state}
 use Rattle.kernel_core.proofs.Kept.{child_kept, within_child}

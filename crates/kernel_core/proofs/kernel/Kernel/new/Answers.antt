@@ -1,5 +1,5 @@
 use Rattle.std.proofs.Common.{ap, arith, ◌∙◌}
-use Rattle.written_kernel.specs.Words.{with_processes}
+use Rattle.spec_kernel.specs.Words.{with_processes}
 use Rattle.kernel_store.specs.Words.{stored_state}
 use Rattle.kernel_core.proofs.Kept.{processes_kept}
 use Rattle.kernel_core.proofs.Steps.{opening-within}

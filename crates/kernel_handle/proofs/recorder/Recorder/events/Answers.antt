@@ -1,6 +1,6 @@
 use Rattle.std.proofs.Common.{◌≡◌, ◌≤◌, length, ap, subst, ◌∙◌, sym}
 use Rattle.dk_base.specs.declared.limits.TheConstants.{EVENTS_MAX}
-use Rattle.written_kernel.specs.Words.{State}
+use Rattle.spec_kernel.specs.Words.{State}
 use Rattle.spec_histories.specs.Histories.{History}
 use Rattle.kernel_handle.proofs.Growing.{events-end, few-end}
 use Rattle.kernel_handle.proofs.recorder.Recorder.events.Goals as goal

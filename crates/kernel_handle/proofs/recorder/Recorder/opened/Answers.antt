@@ -1,4 +1,4 @@
-use Rattle.written_kernel.specs.Words.{State}
+use Rattle.spec_kernel.specs.Words.{State}
 use Rattle.std.proofs.Common.{ap, ◌∙◌}
 use Rattle.kernel_handle.proofs.Growing.{record-begun}
 use Rattle.kernel_handle.proofs.recorder.Recorder.opened.Goals as goal

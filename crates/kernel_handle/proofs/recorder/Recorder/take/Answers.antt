@@ -1,6 +1,6 @@
 use Rattle.std.proofs.Common.{◌≤◌, length, ap, subst, sym}
 use Rattle.dk_base.specs.declared.limits.TheConstants.{THREADS_MAX}
-use Rattle.written_kernel.specs.Words.{MayTurn}
+use Rattle.spec_kernel.specs.Words.{MayTurn}
 use Rattle.spec_histories.specs.Histories.{History, end}
 use Rattle.kernel_handle.proofs.Growing.{record-grown}
 use Rattle.kernel_handle.proofs.Standing.{may-kept}

@@ -1,5 +1,5 @@
 use Rattle.std.proofs.Common.{◌≡◌}
-use Rattle.written_kernel.specs.Words.{waiting_among}
+use Rattle.spec_kernel.specs.Words.{waiting_among}
 use Rattle.spec_histories.specs.Histories.{end}
 use Rattle.kernel_handle.proofs.recorder.Recorder.waiting.Given as goal
 

@@ -25,7 +25,7 @@ use Rattle.kernel_handle.specs.contracts.story.Story.begin as f
 use Rattle.kernel_handle.proofs.story.Story.begin.Statement as stated
 use Rattle.kernel_handle.proofs.story.Story.begin.Code as code
 use Rattle.kernel_handle.specs.contracts.story.Story as made
-use Rattle.written_kernel.specs.Words.{State}
+use Rattle.spec_kernel.specs.Words.{State}
 use Rattle.spec_histories.specs.Histories.{begun}
 
 abbrev stayed : Stays (f.ended).signature.params (f.ended).kept

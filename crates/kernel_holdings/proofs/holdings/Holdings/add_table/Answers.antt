@@ -1,7 +1,7 @@
 use Rattle.std.proofs.Common.{◌≡◌, ◌++◌, [], ◌∷◌, ap, arith}
 use Rattle.std.specs.Prelude.{Err, Ok, OnErr, OnOk, Result}
-use Rattle.kernel_records.specs.Words.{empty_table}
-use Rattle.written_kernel.specs.Types.{NoMemory}
+use Rattle.spec_records.specs.Words.{empty_table}
+use Rattle.spec_kernel.specs.Types.{NoMemory}
 use Rattle.kernel_holdings.specs.Words.{HoldFew, HoldingsValue, references_of}
 use Rattle.kernel_holdings.proofs.Bounds.{holds_new}
 use Rattle.kernel_holdings.proofs.TableCounts.{held_added}

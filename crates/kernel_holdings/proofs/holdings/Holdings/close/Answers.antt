@@ -1,10 +1,10 @@
 use Rattle.std.proofs.Common.{◌≡◌, ◌+◌, [], ◌∷◌, sym, ap, ◌∙◌, arith}
 use Rattle.dk_base.specs.declared.object.Obj.{Obj}
-use Rattle.kernel_records.specs.Words.{count_object, object_named, table_in}
+use Rattle.spec_records.specs.Words.{count_object, object_named, table_in}
 use Rattle.std.specs.Option.{option_to_list}
 use Rattle.kernel_holdings.proofs.TableCounts.{count_in, count_in-close, held_fewer}
 use Rattle.kernel_holdings.proofs.Bounds.{holds_table, row_closed_long}
-use Rattle.kernel_records.specs.Words.{count_object}
+use Rattle.spec_records.specs.Words.{count_object}
 use Rattle.kernel_holdings.specs.Words.{HoldingsValue, references_of}
 use Rattle.kernel_holdings.proofs.holdings.Holdings.close.Goals as goal
 

@@ -1,11 +1,11 @@
 use Rattle.std.proofs.Common.{◌≡◌, ◌+◌, ap, arith}
 use Rattle.dk_base.specs.declared.object.Obj.{Obj}
-use Rattle.kernel_records.specs.Words.{count_object, free_row, objects_of, table_in}
+use Rattle.spec_records.specs.Words.{count_object, free_row, objects_of, table_in}
 use Rattle.kernel_holdings.proofs.TableCounts.{count_in, count_in-close_all, held_fewer}
 use Rattle.kernel_holdings.proofs.Bounds.{holds_table, narrow_at}
 use Rattle.std.proofs.lemmas.List.{length-map}
 use Rattle.kernel_holdings.specs.Words.{HoldingsValue}
-use Rattle.kernel_records.specs.Words.{count_object}
+use Rattle.spec_records.specs.Words.{count_object}
 use Rattle.kernel_holdings.specs.Words.{HoldingsValue, references_of}
 use Rattle.kernel_holdings.proofs.holdings.Holdings.close_all.Goals as goal
 

@@ -1,12 +1,12 @@
 use Rattle.std.proofs.Common.{◌-◌, Some, refl, sym, ap, ◌∙◌, arith}
-use Rattle.written_kernel.specs.Words.{objects_collected_in}
+use Rattle.spec_kernel.specs.Words.{objects_collected_in}
 use Rattle.call_tree.specs.Words.{outcome_in}
 use Rattle.kernel_holdings.proofs.Handing.{collected_few, by_caller, collected, collected_tree, ready_there, some_call}
 use Rattle.kernel_holdings.proofs.TransitCounts.{handed_out}
 use Rattle.kernel_holdings.proofs.Bounds.{few_changed, few_live, holds_calls}
-use Rattle.kernel_records.specs.Words.{is_to_collect_as}
+use Rattle.spec_records.specs.Words.{is_to_collect_as}
 use Rattle.kernel_holdings.specs.Words.{HoldingsValue}
-use Rattle.kernel_records.specs.Words.{count_object, is_object}
+use Rattle.spec_records.specs.Words.{count_object, is_object}
 use Rattle.kernel_holdings.specs.Words.{HoldingsValue, references_of, results_in}
 use Rattle.kernel_holdings.proofs.Carried.{carried_fewer, carried_some, each}
 use Rattle.kernel_holdings.proofs.Handing.{collected_results, results_collected, results_few}

@@ -1,7 +1,7 @@
 use Rattle.std.proofs.Common.{◌++◌, ap, arith, filter, length, ◌∙◌}
 use Rattle.std.proofs.lemmas.List.{length-append}
 use Rattle.std.proofs.lemmas.List.Sums.{count_by-le-length, length-filter}
-use Rattle.kernel_records.specs.Words.{notice_doors}
+use Rattle.spec_records.specs.Words.{notice_doors}
 use Rattle.unref_notice.specs.Words.{was_shared}
 use Rattle.kernel_holdings.specs.Words.{HoldingsValue, takes}
 use Rattle.kernel_holdings.proofs.Telling.{fewer_fell, told_held}

@@ -1,11 +1,11 @@
 use Rattle.std.proofs.Common.{◌-◌, length, ap, ◌∙◌, arith}
-use Rattle.kernel_records.specs.Words.{is_given_as, is_object}
+use Rattle.spec_records.specs.Words.{is_given_as, is_object}
 use Rattle.kernel_holdings.proofs.Handing.{entered, given_args, given_few, given_there}
 use Rattle.kernel_holdings.proofs.TransitCounts.{handed_out}
 use Rattle.kernel_holdings.proofs.Carried.{carried_fewer, carried_some, each}
 use Rattle.kernel_holdings.proofs.Bounds.{few_changed, holds_calls}
 use Rattle.kernel_holdings.specs.Words.{HoldingsValue}
-use Rattle.kernel_records.specs.Words.{count_object}
+use Rattle.spec_records.specs.Words.{count_object}
 use Rattle.kernel_holdings.specs.Words.{HoldingsValue, references_of}
 use Rattle.kernel_holdings.proofs.Handing.{args_few, some_call}
 use Rattle.kernel_holdings.proofs.Referring.{references_to-parts}

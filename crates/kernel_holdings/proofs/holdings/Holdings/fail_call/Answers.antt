@@ -4,7 +4,7 @@ use Rattle.kernel_holdings.proofs.Handing.{failed_few, failed, given_waits}
 use Rattle.kernel_holdings.proofs.TransitCounts.{handed_out}
 use Rattle.kernel_holdings.proofs.Carried.{carried_fewer, carried_some, each}
 use Rattle.kernel_holdings.proofs.Bounds.{few_changed, holds_calls}
-use Rattle.kernel_records.specs.Words.{count_object, is_given_as, is_object}
+use Rattle.spec_records.specs.Words.{count_object, is_given_as, is_object}
 use Rattle.kernel_holdings.specs.Words.{HoldingsValue}
 use Rattle.kernel_holdings.specs.Words.{HoldingsValue, references_of}
 use Rattle.kernel_holdings.proofs.holdings.Holdings.fail_call.Goals as goal

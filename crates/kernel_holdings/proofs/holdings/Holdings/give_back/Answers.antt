@@ -1,17 +1,17 @@
 use Rattle.std.proofs.Common.{◌≡◌, ◌+◌, Bool, Bor, true, false, None, Option, Some, cond, count_by, is_some, find, length, refl, sym, ap, ◌∙◌, arith}
 use Rattle.std.specs.Option.{option_copied}
-use Rattle.kernel_records.proofs.Places.{change_first-none}
-use Rattle.kernel_records.specs.declared.record.CallStage.TheVariants as stage
-use Rattle.kernel_records.specs.Words.{count_object, is_client_call_of, is_object, without_arguments_at}
+use Rattle.spec_records.proofs.Places.{change_first-none}
+use Rattle.spec_records.specs.declared.record.CallStage.TheVariants as stage
+use Rattle.spec_records.specs.Words.{count_object, is_client_call_of, is_object, without_arguments_at}
 use Rattle.unref_notice.specs.Words.{count_of}
-use Rattle.written_kernel.specs.Types.{Call}
+use Rattle.spec_kernel.specs.Types.{Call}
 use Rattle.kernel_holdings.proofs.TransitCounts.{in_transit, return_call-in_transit, transit_more}
 use Rattle.exit_paths.specs.Words.{in_transit as carried_in}
 use Rattle.kernel_holdings.proofs.Carried.{carried_more, each}
 use Rattle.kernel_holdings.proofs.Bounds.{few_changed, holds_calls}
 use Rattle.dk_base.specs.declared.object.Obj.{Obj}
 use Rattle.kernel_holdings.specs.Words.{HoldingsValue, references_to}
-use Rattle.kernel_records.specs.Words.{count_object}
+use Rattle.spec_records.specs.Words.{count_object}
 use Rattle.kernel_holdings.specs.Words.{HoldingsValue, references_of}
 use Rattle.kernel_holdings.proofs.holdings.Holdings.give_back.Goals as goal
 

@@ -1,7 +1,7 @@
 use Rattle.std.proofs.Common.{ap, arith}
 use Rattle.kernel_holdings.proofs.TransitCounts.{give_call-in_transit, transit_same}
 use Rattle.kernel_holdings.proofs.Bounds.{few_changed, holds_calls, queued_few}
-use Rattle.kernel_records.specs.Words.{is_object, is_queued_as}
+use Rattle.spec_records.specs.Words.{is_object, is_queued_as}
 use Rattle.kernel_holdings.proofs.Carried.{carried_same, each}
 use Rattle.kernel_holdings.specs.Words.{HoldingsValue, references_of}
 use Rattle.kernel_holdings.proofs.holdings.Holdings.give_call.Goals as goal

@@ -1,6 +1,6 @@
 use Rattle.std.proofs.Common.{◌+◌, ◌==◌, ◌&&◌, ◌||◌, ap, if◌then◌else◌, ◌∙◌}
 use Rattle.std.specs.List.{list_any}
-use Rattle.kernel_records.specs.Words.{count_object, is_object}
+use Rattle.spec_records.specs.Words.{count_object, is_object}
 use Rattle.unref_notice.specs.Words.{is_pipe_end, was_referred_to}
 use Rattle.kernel_holdings.proofs.holdings.Holdings.gone.Goals as goal
 

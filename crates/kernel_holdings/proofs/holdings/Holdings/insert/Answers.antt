@@ -1,10 +1,10 @@
 use Rattle.std.proofs.Common.{◌≡◌, ◌+◌, [], ◌∷◌, is_some, ap, ◌∙◌, arith}
 use Rattle.dk_base.specs.declared.object.Obj.{Obj}
-use Rattle.kernel_records.specs.Words.{count_object, lowest_free, table_in}
+use Rattle.spec_records.specs.Words.{count_object, lowest_free, table_in}
 use Rattle.kernel_holdings.proofs.TableCounts.{count_in, count_in-insert, held_more}
 use Rattle.kernel_holdings.proofs.Bounds.{holds_table, row_inserted_long}
 use Rattle.kernel_holdings.specs.Words.{HoldingsValue, references_to}
-use Rattle.kernel_records.specs.Words.{count_object}
+use Rattle.spec_records.specs.Words.{count_object}
 use Rattle.kernel_holdings.specs.Words.{HoldingsValue, references_of}
 use Rattle.kernel_holdings.proofs.holdings.Holdings.insert.Goals as goal
 

@@ -1,7 +1,7 @@
 use Rattle.std.proofs.Common.{◌≡◌, ◌+◌, ◌≤◌, [], ◌∷◌, sym, subst, ap, ◌∙◌, arith}
 use Rattle.std.proofs.lemmas.List.Sums.{count_by-le-length}
 use Rattle.dk_base.specs.declared.object.Obj.{Obj}
-use Rattle.kernel_records.specs.Words.{count_object, free_rows, is_object, table_in}
+use Rattle.spec_records.specs.Words.{count_object, free_rows, is_object, table_in}
 use Rattle.kernel_holdings.proofs.TableCounts.{count_in, count_in-install, held_more}
 use Rattle.kernel_holdings.proofs.Bounds.{holds_table, rows_inserted_long}
 use Rattle.kernel_holdings.proofs.Referring.{count_object-cons}

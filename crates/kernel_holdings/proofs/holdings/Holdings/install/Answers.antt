@@ -1,11 +1,11 @@
 use Rattle.std.proofs.Common.{◌≡◌, ◌+◌, ◌≤◌, length, sym, subst, ap, ◌∙◌, arith, is_none}
 use Rattle.dk_base.specs.declared.object.Obj.{Obj}
-use Rattle.kernel_records.specs.Words.{count_object, free_rows, table_in}
+use Rattle.spec_records.specs.Words.{count_object, free_rows, table_in}
 use Rattle.kernel_holdings.proofs.TableCounts.{count_in, count_in-install, held_more}
 use Rattle.kernel_holdings.proofs.Bounds.{holds_table, narrow_at, rows_inserted_long}
 use Rattle.std.proofs.lemmas.List.Sums.{count_by-le-length}
 use Rattle.kernel_holdings.specs.Words.{HoldingsValue, references_to}
-use Rattle.kernel_records.specs.Words.{count_object}
+use Rattle.spec_records.specs.Words.{count_object}
 use Rattle.kernel_holdings.specs.Words.{HoldingsValue, references_of}
 use Rattle.kernel_holdings.proofs.holdings.Holdings.install.Goals as goal
 

@@ -1,11 +1,11 @@
 use Rattle.std.proofs.Common.{length, sym, subst, ap, ◌∙◌, map, arith}
 use Rattle.exit_paths.specs.Words.{in_transit}
-use Rattle.kernel_records.specs.Words.{count_object, is_object}
+use Rattle.spec_records.specs.Words.{count_object, is_object}
 use Rattle.call_tree.specs.Words.{CallsValue}
 use Rattle.kernel_holdings.specs.Words.{IsCountOf}
 use Rattle.kernel_holdings.proofs.TransitCounts.{handed_out}
 use Rattle.kernel_holdings.proofs.Bounds.{few_in_transit, few_left, few_live, holds_calls}
-use Rattle.kernel_records.specs.Words.{leaving_of, left_call}
+use Rattle.spec_records.specs.Words.{leaving_of, left_call}
 use Rattle.kernel_holdings.specs.Words.{HoldFew, HoldingsValue}
 use Rattle.kernel_holdings.specs.Words.{HoldingsValue, references_of}
 use Rattle.kernel_holdings.proofs.holdings.Holdings.leave.Goals as goal

@@ -1,7 +1,7 @@
 use Rattle.std.proofs.Common.{◌≡◌, ◌≤◌, [], ◌∷◌, Option, None, Some, ap, arith}
 use Rattle.std.specs.Prelude.{IfSome}
-use Rattle.kernel_records.specs.Words.{count_object, object_named, table_in}
-use Rattle.written_kernel.specs.Types.{Obj}
+use Rattle.spec_records.specs.Words.{count_object, object_named, table_in}
+use Rattle.spec_kernel.specs.Types.{Obj}
 use Rattle.kernel_holdings.specs.Words.{HoldingsValue, references_of}
 use Rattle.kernel_holdings.proofs.Referring.{references_to-parts}
 use Rattle.kernel_holdings.proofs.TableCounts.{named_held}

@@ -1,14 +1,14 @@
 use Rattle.std.proofs.Common.{◌≡◌, ◌+◌, Bool, count_by, length, refl, ap, ◌∙◌, arith}
-use Rattle.kernel_records.specs.Words.{count_object}
+use Rattle.spec_records.specs.Words.{count_object}
 use Rattle.unref_notice.specs.Words.{count_of}
 use Rattle.kernel_holdings.proofs.TransitCounts.{in_transit, open_call-in_transit, transit_more}
 use Rattle.exit_paths.specs.Words.{in_transit as carried_in}
 use Rattle.kernel_holdings.proofs.Carried.{carried_more, each}
-use Rattle.kernel_records.specs.Words.{is_object}
+use Rattle.spec_records.specs.Words.{is_object}
 use Rattle.kernel_holdings.proofs.Bounds.{few_pushed, holds_calls}
 use Rattle.dk_base.specs.declared.object.Obj.{Obj}
 use Rattle.kernel_holdings.specs.Words.{HoldingsValue, references_to}
-use Rattle.kernel_records.specs.Words.{count_object}
+use Rattle.spec_records.specs.Words.{count_object}
 use Rattle.kernel_holdings.specs.Words.{HoldingsValue, references_of}
 use Rattle.kernel_holdings.proofs.holdings.Holdings.open_call.Goals as goal
 

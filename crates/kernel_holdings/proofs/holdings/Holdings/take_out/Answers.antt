@@ -1,10 +1,10 @@
 use Rattle.std.proofs.Common.{◌≡◌, ◌+◌, filter, ap, arith}
 use Rattle.dk_base.specs.declared.object.Obj.{Obj}
-use Rattle.kernel_records.specs.Words.{count_object, objects_passed, table_in}
+use Rattle.spec_records.specs.Words.{count_object, objects_passed, table_in}
 use Rattle.kernel_holdings.specs.Words.{is_released}
 use Rattle.kernel_holdings.proofs.TableCounts.{count_in, count_in-release, held_fewer}
 use Rattle.kernel_holdings.proofs.Bounds.{holds_table, rows_released_long}
-use Rattle.kernel_records.specs.Words.{count_object}
+use Rattle.spec_records.specs.Words.{count_object}
 use Rattle.kernel_holdings.specs.Words.{HoldingsValue, references_of}
 use Rattle.kernel_holdings.proofs.Referring.{references_to-parts}
 use Rattle.kernel_holdings.proofs.TableCounts.{passed_held}

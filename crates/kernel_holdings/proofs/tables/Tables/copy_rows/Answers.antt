@@ -1,5 +1,5 @@
 use Rattle.std.proofs.Common.{◌-◌, ◌++◌, get_or, length, ap, sym, ◌∙◌, arith}
-use Rattle.kernel_records.specs.Words.{objects_of, table_in, with_table}
+use Rattle.spec_records.specs.Words.{objects_of, table_in, with_table}
 use Rattle.kernel_holdings.proofs.Copied.{read_there, written_over}
 use Rattle.kernel_holdings.proofs.tables.Tables.copy_rows.Goals as goal
 

@@ -1,6 +1,6 @@
 use Rattle.std.proofs.Common.{ap, ◌∙◌, arith}
 use Rattle.fd_table.proofs.Lowest.{free_some}
-use Rattle.kernel_records.specs.Words.{descriptor, free_place, free_rows, insert_row, with_table}
+use Rattle.spec_records.specs.Words.{descriptor, free_place, free_rows, insert_row, with_table}
 use Rattle.kernel_holdings.proofs.FreeTable.{table_read, table_written}
 use Rattle.kernel_holdings.proofs.tables.Tables.insert_two.Goals as goal
 

@@ -1,6 +1,6 @@
 use Rattle.std.proofs.Common.{◌≡◌, None, ap, sym, ◌∙◌}
 use Rattle.dk_base.specs.ByNumber.{at_number}
-use Rattle.kernel_records.specs.Words.{release_rows, table_in}
+use Rattle.spec_records.specs.Words.{release_rows, table_in}
 use Rattle.kernel_holdings.proofs.NoTable.{none_changed, nothing_taken}
 use Rattle.kernel_holdings.proofs.tables.Tables.take_out.Goals as goal
 

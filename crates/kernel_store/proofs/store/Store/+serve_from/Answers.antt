@@ -1,7 +1,7 @@
 use Rattle.std.proofs.Common.{◌||◌, false, option_map, refl, sym, subst, length, arith}
 use Rattle.std.proofs.lemmas.List.{drop_all}
-use Rattle.pool_agreement.specs.Words.{is_this}
-use Rattle.written_kernel.specs.Words.{give, has_given_last}
+use Rattle.law_pools.specs.Words.{is_this}
+use Rattle.spec_kernel.specs.Words.{give, has_given_last}
 use Rattle.kernel_store.specs.Stored.{stored_state}
 use Rattle.kernel_store.proofs.AnyOrder.{start_none_meant}
 use Rattle.kernel_store.proofs.GivingServed.{AreOut, out_next, served_more, served_none, told_apart}

@@ -1,6 +1,6 @@
 use Rattle.std.proofs.Common.{◌||◌, option_map, sym, length, arith}
-use Rattle.pool_agreement.specs.Words.{is_this}
-use Rattle.written_kernel.specs.Words.{give, has_given_last}
+use Rattle.law_pools.specs.Words.{is_this}
+use Rattle.spec_kernel.specs.Words.{give, has_given_last}
 use Rattle.kernel_store.specs.Stored.{stored_state}
 use Rattle.kernel_store.proofs.GivingServed.{out_parked, served_more, to_all, told_apart}
 use Rattle.kernel_store.proofs.store.Store.+serve_parked.Goals as goal

@@ -1,5 +1,5 @@
 use Rattle.std.proofs.Common.{length}
-use Rattle.thread_set.specs.Words.{members}
+use Rattle.dk_base.specs.Words.{members}
 use Rattle.kernel_store.proofs.store.Store.+serve_parked.Given as goal
 
 abbrev pub decreases-serve_parked : goal.decreases-serve_parked

@@ -1,8 +1,8 @@
 use Rattle.std.proofs.Common.{rules, ◌≡◌, ap, length, ◌+◌, ◌≤◌, sym, subst, [], ◌∷◌, arith, length-append}
-use Rattle.kernel_records.specs.Words.{new_door}
+use Rattle.spec_records.specs.Words.{new_door}
 use Rattle.server_pool.specs.Words.{PoolsValue, item_room_in}
-use Rattle.pool_agreement.specs.Words.{Agrees, IsGivenOut}
-use Rattle.pool_agreement.proofs.Queues.{agrees_door}
+use Rattle.law_pools.specs.Words.{Agrees, IsGivenOut}
+use Rattle.law_pools.proofs.Queues.{agrees_door}
 use Rattle.kernel_store.specs.Stored.{ArePlaced, StoreValue, stored_state}
 use Rattle.kernel_store.proofs.Alike.{given_out_door, items_door}
 use Rattle.kernel_store.proofs.There.{last_there, there_doors}

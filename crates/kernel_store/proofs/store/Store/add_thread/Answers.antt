@@ -2,16 +2,16 @@ use Rattle.kernel_store.specs.Turning.{KnowsPaths, KnowsPorts}
 use Rattle.kernel_store.proofs.Knowing.{knows_added}
 use Rattle.std.proofs.Common.{rules, ◌≡◌, ℕ, ◌+◌, ◌++◌, ◌∷◌, ◌||◌, [], Bool, true, false, ap, sym, ◌∙◌, subst, subst₂, length, arith}
 use Rattle.dk_base.specs.ByNumber.{at_number}
-use Rattle.kernel_records.specs.Words.{ProcessTable, is_live_in, is_unborn_in, new_thread_where}
+use Rattle.spec_records.specs.Words.{ProcessTable, is_live_in, is_unborn_in, new_thread_where}
 use Rattle.server_pool.specs.Words.{PoolsValue, change_at_number, change_spares, with_spare, without_highest}
-use Rattle.pool_agreement.specs.Words.{Agrees, IsGivenOut}
+use Rattle.law_pools.specs.Words.{Agrees, IsGivenOut}
 use Rattle.kernel_store.specs.Noticing.{HaveItemRoomBut}
 use Rattle.kernel_store.specs.Stored.{ReferToDoors, StoreValue}
 use Rattle.kernel_store.proofs.Short.{room_spares}
 use Rattle.exit_paths.proofs.Alike.{agrees_same}
 use Rattle.kernel_store.proofs.Threads.{agrees_awake, agrees_dormant, is_there, same_taken_back, spares_below, where_awaits_not, where_gets_not}
-use Rattle.call_agreement.specs.Words.{AreBacked}
-use Rattle.call_agreement.proofs.Backing.{thread_added}
+use Rattle.law_calls.specs.Words.{AreBacked}
+use Rattle.law_calls.proofs.Backing.{thread_added}
 use Rattle.kernel_store.proofs.Waits.{waits_added}
 use Rattle.kernel_store.proofs.store.Store.add_thread.Goals as goal
 use Rattle.kernel_store.proofs.store.Store.add_thread.Goals.{then-dormant+in_ok-add_spare, else-dormant}

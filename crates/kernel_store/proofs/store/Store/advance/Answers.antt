@@ -1,6 +1,6 @@
 use Rattle.std.proofs.Common.{◌≡◌, ap, arith, length, sym, ◌∙◌}
 use Rattle.std.proofs.lemmas.Bool.Decides.{nat_tests}
-use Rattle.kernel_records.specs.Words.{dues}
+use Rattle.spec_records.specs.Words.{dues}
 use Rattle.kernel_store.proofs.PortsTold.{none_due}
 use Rattle.kernel_store.proofs.store.Store.advance.Goals as goal
 

@@ -1,10 +1,10 @@
 use Rattle.std.proofs.Common.{◌≡◌, filter, sym, subst, ap, ap₂, ◌∙◌}
-use Rattle.kernel_records.specs.Words.{ProcessTable, begin_process, is_dormant, process_in, state_in}
-use Rattle.written_kernel.specs.Leaving.{bindings_after_fork}
-use Rattle.written_kernel.specs.Words.{State}
+use Rattle.spec_records.specs.Words.{ProcessTable, begin_process, is_dormant, process_in, state_in}
+use Rattle.spec_kernel.specs.Leaving.{bindings_after_fork}
+use Rattle.spec_kernel.specs.Words.{State}
 use Rattle.server_pool.specs.Words.{PoolsValue, change_at_number, change_spares, item_room_in, queue_in, stack_in}
 use Rattle.fork_step.specs.Forking.{bindings_of_child}
-use Rattle.call_agreement.proofs.Beginning.{backed_begin}
+use Rattle.law_calls.proofs.Beginning.{backed_begin}
 use Rattle.kernel_store.specs.Forking.{AreDormant, stays_spare}
 use Rattle.kernel_store.specs.Stored.{StoreValue, stored_state}
 use Rattle.kernel_store.proofs.Forking.{agrees_begun, agrees_child_bound, child_bindings, first_calm, knows_begun, nowhere_first, waits_begun}

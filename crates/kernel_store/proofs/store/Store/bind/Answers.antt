@@ -1,5 +1,5 @@
 use Rattle.std.proofs.Common.{rules, Some}
-use Rattle.kernel_records.specs.Words.{bind_thread}
+use Rattle.spec_records.specs.Words.{bind_thread}
 use Rattle.kernel_store.proofs.Acts.{fills, bound, given_out_bound}
 use Rattle.kernel_store.proofs.Short.{room_bound}
 use Rattle.kernel_store.proofs.store.Store.bind.Goals as goal

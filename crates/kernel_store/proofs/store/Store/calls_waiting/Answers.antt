@@ -1,6 +1,6 @@
 use Rattle.std.proofs.Common.{sym, ap, ◌∙◌}
-use Rattle.written_kernel.specs.Words.{calls_waiting}
-use Rattle.pool_agreement.proofs.Queues.{queue_length_agrees}
+use Rattle.spec_kernel.specs.Words.{calls_waiting}
+use Rattle.law_pools.proofs.Queues.{queue_length_agrees}
 use Rattle.kernel_store.specs.Stored.{StoreValue, stored_state}
 use Rattle.kernel_store.proofs.store.Store.calls_waiting.Goals as goal
 

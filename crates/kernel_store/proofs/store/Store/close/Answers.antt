@@ -2,7 +2,7 @@ use Rattle.std.proofs.Common.{rules}
 use Rattle.kernel_store.proofs.There.{there_fewer}
 use Rattle.kernel_store.proofs.Waits.{others_kept}
 use Rattle.std.specs.Option.{option_to_list}
-use Rattle.kernel_records.specs.Words.{object_named, table_in}
+use Rattle.spec_records.specs.Words.{object_named, table_in}
 use Rattle.kernel_store.proofs.store.Store.close.Goals as goal
 
 pub invariant_of-self : goal.invariant_of-self

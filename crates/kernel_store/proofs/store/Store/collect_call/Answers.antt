@@ -1,11 +1,11 @@
-use Rattle.kernel_records.specs.Words.{thread_at_state}
+use Rattle.spec_records.specs.Words.{thread_at_state}
 use Rattle.kernel_store.proofs.Knowing.{knows_changed, turned_still}
 use Rattle.std.proofs.Common.{ap, refl, ◌∙◌}
-use Rattle.kernel_records.specs.declared.record.ThreadState.TheVariants as is
-use Rattle.kernel_records.specs.Words.{is_dormant, is_idle}
-use Rattle.call_agreement.proofs.Backing.{call_collected, some_call}
-use Rattle.pool_agreement.proofs.Queues.{agrees_collect}
-use Rattle.pool_agreement.proofs.Stacks.{agrees_turn}
+use Rattle.spec_records.specs.declared.record.ThreadState.TheVariants as is
+use Rattle.spec_records.specs.Words.{is_dormant, is_idle}
+use Rattle.law_calls.proofs.Backing.{call_collected, some_call}
+use Rattle.law_pools.proofs.Queues.{agrees_collect}
+use Rattle.law_pools.proofs.Stacks.{agrees_turn}
 use Rattle.kernel_store.proofs.Acts.{state_is}
 use Rattle.kernel_store.proofs.There.{held_there, there_fewer}
 use Rattle.kernel_holdings.specs.Words.{results_in}

@@ -1,7 +1,7 @@
 use Rattle.std.proofs.Common.{◌≤◌, ap, ◌∙◌, arith, rules}
 use Rattle.std.specs.List.{list_any}
-use Rattle.kernel_records.specs.Words.{count_object}
-use Rattle.written_kernel.specs.Types.{Obj}
+use Rattle.spec_records.specs.Words.{count_object}
+use Rattle.spec_kernel.specs.Types.{Obj}
 use Rattle.kernel_holdings.specs.Words.{references_of}
 use Rattle.kernel_store.specs.Turning.{is_port}
 use Rattle.kernel_store.proofs.Copied.{table_held}

@@ -1,5 +1,5 @@
 use Rattle.std.proofs.Common.{List, ap, refl, subst, sym, ◌∙◌}
-use Rattle.kernel_records.specs.Words.{Port, port_of, timer_at}
+use Rattle.spec_records.specs.Words.{Port, port_of, timer_at}
 use Rattle.kernel_store.specs.Turning.{KnowsPorts}
 use Rattle.kernel_store.proofs.PortWaits.{none_unqueued, unqueued_elsewhere}
 use Rattle.kernel_store.proofs.store.Store.delete_timer.Goals as goal

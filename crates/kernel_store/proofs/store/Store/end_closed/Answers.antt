@@ -1,9 +1,9 @@
 use Rattle.std.proofs.Common.{◌≡◌, ℕ, [], ap, length, subst, sym, ◌∙◌, arith}
 use Rattle.std.proofs.lemmas.Bool.Decides.{nat_tests}
 use Rattle.port_assoc.specs.Words.{AssocsValue}
-use Rattle.act_changes.specs.Ended.{empty_rows, ended_by}
-use Rattle.written_kernel.specs.Words.{Channels, with_channels}
-use Rattle.associated_ports.specs.Words.{HasRoomToEnd}
+use Rattle.law_channels.specs.Ended.{empty_rows, ended_by}
+use Rattle.spec_kernel.specs.Words.{Channels, with_channels}
+use Rattle.kernel_ports.specs.Words.{HasRoomToEnd}
 use Rattle.kernel_store.specs.Stored.{StoreValue, stored_state}
 use Rattle.kernel_store.specs.Telling.{channels_in, closing_of}
 use Rattle.kernel_store.proofs.PortsTold.{store_ended}

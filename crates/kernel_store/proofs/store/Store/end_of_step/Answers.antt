@@ -1,5 +1,5 @@
 use Rattle.std.proofs.Common.{◌++◌, ap, filter, sym, subst, ◌∙◌}
-use Rattle.kernel_records.specs.Words.{notice_doors}
+use Rattle.spec_records.specs.Words.{notice_doors}
 use Rattle.kernel_store.specs.Stored.{ArePlaced, StoreValue, has_fallen_since, stored_state}
 use Rattle.kernel_store.proofs.store.Store.end_of_step.Goals as goal
 

@@ -1,8 +1,8 @@
 use Rattle.kernel_store.proofs.Knowing.{knows_ended}
 use Rattle.std.proofs.Common.{sym, ◌∙◌, arith}
-use Rattle.kernel_records.specs.Words.{end_owner}
-use Rattle.pool_agreement.proofs.Leaving.{agrees_end}
-use Rattle.call_agreement.proofs.Backing.{process_ended}
+use Rattle.spec_records.specs.Words.{end_owner}
+use Rattle.law_pools.proofs.Leaving.{agrees_end}
+use Rattle.law_calls.proofs.Backing.{process_ended}
 use Rattle.kernel_store.proofs.There.{there_doors, there_fewer}
 use Rattle.kernel_store.proofs.Waits.{waits_anew}
 use Rattle.kernel_store.proofs.store.Store.end_process.Goals as goal

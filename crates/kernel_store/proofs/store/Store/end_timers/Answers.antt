@@ -1,7 +1,7 @@
 use Rattle.std.proofs.Common.{ap, length, subst, sym, ◌∙◌}
-use Rattle.act_changes.specs.Ended.{timers_ended}
-use Rattle.written_kernel.specs.Words.{with_channels}
-use Rattle.associated_ports.specs.Words.{HasRoomToEnd}
+use Rattle.law_channels.specs.Ended.{timers_ended}
+use Rattle.spec_kernel.specs.Words.{with_channels}
+use Rattle.kernel_ports.specs.Words.{HasRoomToEnd}
 use Rattle.kernel_store.specs.Stored.{StoreValue, stored_state}
 use Rattle.kernel_store.specs.Telling.{closing_of}
 use Rattle.kernel_store.proofs.PortsTold.{store_timers_ended}

@@ -1,7 +1,7 @@
 use Rattle.dk_base.specs.declared.object.Item.TheVariants as item
 use Rattle.kernel_store.proofs.Knowing.{entered_still, knows_changed}
 use Rattle.std.proofs.Common.{ap, ◌∙◌}
-use Rattle.call_agreement.proofs.Backing.{call_entered, some_call}
+use Rattle.law_calls.proofs.Backing.{call_entered, some_call}
 use Rattle.kernel_store.proofs.Acts.{entered, state_is}
 use Rattle.kernel_store.proofs.There.{held_there, there_fewer}
 use Rattle.kernel_store.proofs.Waits.{entered_gets_not, others_kept, waits_changed}

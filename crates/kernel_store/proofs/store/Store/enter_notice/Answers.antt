@@ -1,14 +1,14 @@
 use Rattle.kernel_store.proofs.Knowing.{entered_still, knows_changed}
 use Rattle.std.proofs.Common.{◌≡◌, ap, sym, ◌∙◌}
-use Rattle.kernel_records.specs.declared.record.NoticeStage.TheVariants as stage
-use Rattle.kernel_records.specs.Words.{is_given_notice_as, notice_at}
-use Rattle.pool_agreement.proofs.Noticing.{agrees_enter_notice}
+use Rattle.spec_records.specs.declared.record.NoticeStage.TheVariants as stage
+use Rattle.spec_records.specs.Words.{is_given_notice_as, notice_at}
+use Rattle.law_pools.proofs.Noticing.{agrees_enter_notice}
 use Rattle.kernel_store.specs.Stored.{stored_state}
 use Rattle.kernel_store.proofs.Acts.{entered_notice, state_is}
-use Rattle.kernel_records.proofs.Places.{change_first-none}
+use Rattle.spec_records.proofs.Places.{change_first-none}
 use Rattle.dk_base.specs.declared.object.Item.TheVariants as item
-use Rattle.kernel_records.specs.Words.{thread_in_invocation}
-use Rattle.call_agreement.proofs.Backing.{noticed_turns}
+use Rattle.spec_records.specs.Words.{thread_in_invocation}
+use Rattle.law_calls.proofs.Backing.{noticed_turns}
 use Rattle.kernel_store.proofs.Waits.{entered_gets_not, waits_changed}
 use Rattle.kernel_store.proofs.store.Store.enter_notice.Goals as goal
 

@@ -2,10 +2,10 @@ use Rattle.kernel_store.proofs.Knowing.{knows_changed, turned_still}
 use Rattle.std.proofs.Common.{◌≡◌, true, ap, le_refl, refl, subst, ◌∙◌}
 use Rattle.server_pool.specs.Words.{change_pool, unpark_in}
 use Rattle.kernel_store.proofs.FailedHere.{agrees_failed_here, left_here, state_failed}
-use Rattle.kernel_records.specs.declared.record.ThreadState.TheVariants as is
-use Rattle.kernel_records.specs.Words.{is_idle, thread_at_state, unbind_thread}
-use Rattle.written_kernel.specs.Words.{has_lost_door}
-use Rattle.call_agreement.proofs.Backing.{idle_turns}
+use Rattle.spec_records.specs.declared.record.ThreadState.TheVariants as is
+use Rattle.spec_records.specs.Words.{is_idle, thread_at_state, unbind_thread}
+use Rattle.spec_kernel.specs.Words.{has_lost_door}
+use Rattle.law_calls.proofs.Backing.{idle_turns}
 use Rattle.kernel_store.specs.contracts.store.Store.{the_view}
 use Rattle.kernel_store.specs.Failing.{FailsOn}
 use Rattle.kernel_store.specs.Stored.{StoreValue, stored_state}

@@ -1,9 +1,9 @@
 use Rattle.kernel_store.proofs.Knowing.{idle_still, knows_changed}
 use Rattle.std.proofs.Common.{◌+◌, ap, refl, rules, ◌∙◌}
-use Rattle.kernel_records.specs.Words.{is_done, is_dormant, is_idle, idle_thread, tid}
+use Rattle.spec_records.specs.Words.{is_done, is_dormant, is_idle, idle_thread, tid}
 use Rattle.exit_paths.specs.Words.{own_pool_in}
-use Rattle.call_agreement.proofs.Backing.{failed_turns, some_call}
-use Rattle.pool_agreement.proofs.Queues.{agrees_fail}
+use Rattle.law_calls.proofs.Backing.{failed_turns, some_call}
+use Rattle.law_pools.proofs.Queues.{agrees_fail}
 use Rattle.kernel_store.specs.Stored.{stored_state}
 use Rattle.kernel_store.proofs.LostDoor.{given_not_lost}
 use Rattle.kernel_store.proofs.Parking.{can_park, parked_here, parked_keeps, parked_queues}

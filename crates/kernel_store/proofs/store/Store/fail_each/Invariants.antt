@@ -1,6 +1,6 @@
 use Rattle.std.proofs.Common.{◌≡◌, ℕ, false, length, true}
-use Rattle.thread_set.specs.Words.{has, members}
-use Rattle.written_kernel.specs.Words.{has_lost_door}
+use Rattle.dk_base.specs.Words.{has, members}
+use Rattle.spec_kernel.specs.Words.{has_lost_door}
 use Rattle.kernel_store.specs.Failing.{IsFailing}
 use Rattle.kernel_store.specs.Stored.{stored_state}
 use Rattle.kernel_store.proofs.store.Store.fail_each.Given as goal

@@ -1,5 +1,5 @@
 use Rattle.std.proofs.Common.{◌≡◌, ◌∙◌, false, refl, sym, subst}
-use Rattle.written_kernel.specs.Words.{has_lost_door}
+use Rattle.spec_kernel.specs.Words.{has_lost_door}
 use Rattle.kernel_store.specs.contracts.store.Store.{the_view}
 use Rattle.kernel_store.specs.Failing.{LosesNoneIn}
 use Rattle.kernel_store.specs.Stored.{StoreValue, stored_state}

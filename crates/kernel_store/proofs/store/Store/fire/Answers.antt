@@ -1,8 +1,8 @@
 use Rattle.std.proofs.Common.{ap, subst, sym, ◌∙◌}
-use Rattle.written_kernel.specs.Words.{fire, references_of}
-use Rattle.associated_ports.specs.Words.{AssociatedPortsValue}
+use Rattle.spec_kernel.specs.Words.{fire, references_of}
+use Rattle.kernel_ports.specs.Words.{AssociatedPortsValue}
 use Rattle.event_port.specs.Words.{PortsValue}
-use Rattle.port_telling.specs.Words.{AreAllNamed}
+use Rattle.kernel_ports.specs.Words.{AreAllNamed}
 use Rattle.kernel_store.specs.Stored.{StoreValue, stored_state}
 use Rattle.kernel_store.specs.Telling.{AreNamed, IsOfPipe}
 use Rattle.kernel_store.proofs.PortsTold.{all_named, store_fired}

@@ -1,9 +1,9 @@
 use Rattle.std.proofs.Common.{◌≡◌, ◌⊎◌, ◌≤◌, ℕ, List, [], Option, le_refl, if◌then◌else◌, is_some, length, refl, sym, subst, subst₂, ap, ◌∙◌, arith}
 use Rattle.std.specs.Prelude.{Err, Ok, OnErr, Result}
-use Rattle.kernel_records.specs.Words.{ProcessTable, begin_process, forking, is_idle, objects_of, state_in, table_in, thread_at, with_table}
-use Rattle.written_kernel.specs.Leaving.{bind_first, bindings_after_fork}
-use Rattle.written_kernel.specs.Types.{Obj, Parked, Waiting}
-use Rattle.written_kernel.specs.Words.{State, bound_of, forget, fork, leave, now, process_of, table_of}
+use Rattle.spec_records.specs.Words.{ProcessTable, begin_process, forking, is_idle, objects_of, state_in, table_in, thread_at, with_table}
+use Rattle.spec_kernel.specs.Leaving.{bind_first, bindings_after_fork}
+use Rattle.spec_kernel.specs.Types.{Obj, Parked, Waiting}
+use Rattle.spec_kernel.specs.Words.{State, bound_of, forget, fork, leave, now, process_of, table_of}
 use Rattle.server_pool.specs.Words.{PoolsValue, item_room_in, queue_in, stack_in}
 use Rattle.exit_paths.proofs.LeftThreads.{process_kept}
 use Rattle.kernel_store.specs.Frames.{AreIn}

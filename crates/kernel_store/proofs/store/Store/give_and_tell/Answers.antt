@@ -1,7 +1,7 @@
 use Rattle.std.proofs.Common.{◌||◌, ◌&&◌, not, option_map, ap, ap₂, sym, ◌∙◌}
-use Rattle.kernel_records.specs.declared.pool.Pool.TheVariants.{Common}
-use Rattle.kernel_records.specs.Words.{is_pool, pid}
-use Rattle.pool_agreement.specs.Words.{is_this}
+use Rattle.spec_records.specs.declared.pool.Pool.TheVariants.{Common}
+use Rattle.spec_records.specs.Words.{is_pool, pid}
+use Rattle.law_pools.specs.Words.{is_this}
 use Rattle.kernel_store.proofs.store.Store.give_and_tell.Goals as goal
 
 pub returns : goal.returns

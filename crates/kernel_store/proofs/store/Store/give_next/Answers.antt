@@ -1,14 +1,14 @@
 use Rattle.kernel_store.proofs.Knowing.{knows_changed, turned_still}
 use Rattle.std.proofs.Common.{ap, refl, sym, subst, ◌∙◌}
 use Rattle.server_pool.specs.Words.{match_in}
-use Rattle.pool_agreement.specs.Words.{IsGivenOutIn}
+use Rattle.law_pools.specs.Words.{IsGivenOutIn}
 use Rattle.kernel_store.specs.Stored.{IsAgreed}
 use Rattle.kernel_store.proofs.Giving.{agrees_given, agrees_given_notice, gives_on, gives_on_notice, matched_is_idle, matched_waits, nothing_to_give}
 use Rattle.kernel_store.specs.contracts.store.Store.{the_view}
-use Rattle.kernel_records.specs.declared.record.ThreadState.TheVariants as is
-use Rattle.kernel_records.specs.Words.{thread_at_state}
-use Rattle.call_agreement.proofs.Backing.{call_given, idle_serves_not, idle_there, idle_turns, idle_waits_not, some_call}
-use Rattle.call_agreement.proofs.Free.{is_thread}
+use Rattle.spec_records.specs.declared.record.ThreadState.TheVariants as is
+use Rattle.spec_records.specs.Words.{thread_at_state}
+use Rattle.law_calls.proofs.Backing.{call_given, idle_serves_not, idle_there, idle_turns, idle_waits_not, some_call}
+use Rattle.law_calls.proofs.Free.{is_thread}
 use Rattle.kernel_store.proofs.There.{there_fewer}
 use Rattle.kernel_store.proofs.Short.{matched_room, room_changed}
 use Rattle.kernel_store.proofs.Waits.{turned_gets_not, waits_changed, waits_kept}

@@ -1,7 +1,7 @@
 use Rattle.std.proofs.Common.{◌||◌, ap, subst, ◌∙◌}
 use Rattle.std.specs.List.{list_any}
 use Rattle.kernel_holdings.specs.Words.{has_lost_all}
-use Rattle.kernel_records.specs.Words.{is_object}
+use Rattle.spec_records.specs.Words.{is_object}
 use Rattle.kernel_store.specs.Stored.{StoreValue, stored_state}
 use Rattle.kernel_store.specs.Telling.{AreGone, HasOpened}
 use Rattle.kernel_store.proofs.Naming.{gone_is}

@@ -3,19 +3,19 @@ use Rattle.kernel_store.proofs.Knowing.{knows_left}
 use Rattle.std.proofs.Common.{◌≡◌, ◌+◌, ◌++◌, ◌<◌, ◌==◌, ◌&&◌, ℕ, true, false, not, length, sym, ap, ◌∙◌, subst, subst₂, arith, rules}
 use Rattle.std.specs.List.{list_any}
 use Rattle.dk_base.specs.declared.number.Tid.{Tid}
-use Rattle.thread_set.specs.Words.{has}
-use Rattle.pool_agreement.specs.Words.{IsGivenOut}
+use Rattle.dk_base.specs.Words.{has}
+use Rattle.law_pools.specs.Words.{IsGivenOut}
 use Rattle.exit_paths.specs.Words.{became_idle, is_idle_at}
 use Rattle.kernel_store.proofs.LeftOut.{has_idle, left_out, told_within}
-use Rattle.call_agreement.proofs.Leaving.{calls_left}
-use Rattle.call_agreement.specs.Words.{AreBacked}
+use Rattle.law_calls.proofs.Leaving.{calls_left}
+use Rattle.law_calls.specs.Words.{AreBacked}
 use Rattle.kernel_holdings.specs.Words.{HoldingsValue}
-use Rattle.kernel_records.specs.Words.{CallTree, ProcessTable, is_dormant, kept_notices, leaving_of, left_notices, state_in, thread_at}
-use Rattle.written_kernel.specs.Words.{forget, leave}
+use Rattle.spec_records.specs.Words.{CallTree, ProcessTable, is_dormant, kept_notices, leaving_of, left_notices, state_in, thread_at}
+use Rattle.spec_kernel.specs.Words.{forget, leave}
 use Rattle.server_pool.specs.Words.{item_room_in}
-use Rattle.pool_agreement.specs.Words.{Agrees}
-use Rattle.pool_agreement.proofs.Stacks.{agrees_later}
-use Rattle.pool_agreement.proofs.Noticing.{list_is_kept}
+use Rattle.law_pools.specs.Words.{Agrees}
+use Rattle.law_pools.proofs.Stacks.{agrees_later}
+use Rattle.law_pools.proofs.Noticing.{list_is_kept}
 use Rattle.unref_notice.specs.Words.{AreAllLeft}
 use Rattle.kernel_store.specs.Held.{AreHeld}
 use Rattle.kernel_store.proofs.HeldNotices.{all_are_left}

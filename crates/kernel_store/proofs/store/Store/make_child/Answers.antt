@@ -1,5 +1,5 @@
 use Rattle.std.proofs.Common.{rules, sym, subst}
-use Rattle.pool_agreement.specs.Words.{IsGivenOut}
+use Rattle.law_pools.specs.Words.{IsGivenOut}
 use Rattle.kernel_store.specs.Stored.{StoreValue}
 use Rattle.kernel_store.proofs.Forking.{agrees_child, backed_child, knows_child, waits_child}
 use Rattle.kernel_store.proofs.store.Store.make_child.Goals as goal

@@ -1,13 +1,13 @@
 use Rattle.std.proofs.Common.{◌≡◌, ◌+◌, ◌≤◌, ℕ, ◌∷◌, ap, sym, ◌∙◌, is_some, true, refl, subst}
 use Rattle.dk_base.specs.declared.object.Item.TheVariants as item
-use Rattle.kernel_records.specs.Words.{make_notice, new_notice, waiting_notice, NoticeList}
-use Rattle.written_kernel.specs.Types.{Pool, Waiting}
-use Rattle.written_kernel.specs.Words.{is_valid}
+use Rattle.spec_records.specs.Words.{make_notice, new_notice, waiting_notice, NoticeList}
+use Rattle.spec_kernel.specs.Types.{Pool, Waiting}
+use Rattle.spec_kernel.specs.Words.{is_valid}
 use Rattle.server_pool.specs.Words.{PoolsValue, change_pool, enqueue_in, pool_at}
-use Rattle.pool_agreement.specs.Words.{Agrees}
-use Rattle.pool_agreement.proofs.Noticing.{agrees_make}
+use Rattle.law_pools.specs.Words.{Agrees}
+use Rattle.law_pools.proofs.Noticing.{agrees_make}
 use Rattle.kernel_store.specs.contracts.store.Store.{the_view}
-use Rattle.written_kernel.specs.Words.{pool_of}
+use Rattle.spec_kernel.specs.Words.{pool_of}
 use Rattle.kernel_store.specs.Frames.{CanSettle, serves_any}
 use Rattle.kernel_store.specs.Stored.{ArePlaced, CanMake, StoreValue, stored_state}
 use Rattle.kernel_store.proofs.Made.{served_there}

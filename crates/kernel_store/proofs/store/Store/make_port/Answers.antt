@@ -1,6 +1,6 @@
 use Rattle.std.proofs.Common.{[], ◌∷◌, ap, refl, rules, subst, ◌+◌, ◌≢◌, length, ◌∙◌}
 use Rattle.dk_base.specs.declared.object.Obj.TheVariants as obj
-use Rattle.kernel_records.specs.Words.{port_of}
+use Rattle.spec_records.specs.Words.{port_of}
 use Rattle.kernel_store.proofs.There.{there_more}
 use Rattle.kernel_store.proofs.PortWaits.{made_elsewhere, not_this_port}
 use Rattle.kernel_store.proofs.store.Store.make_port.Goals as goal

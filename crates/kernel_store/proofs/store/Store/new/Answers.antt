@@ -1,6 +1,6 @@
 use Rattle.kernel_store.proofs.Knowing.{knows_none}
 use Rattle.std.proofs.Common.{refl}
-use Rattle.pool_agreement.proofs.Starting.{agrees_none}
+use Rattle.law_pools.proofs.Starting.{agrees_none}
 use Rattle.kernel_store.proofs.Short.{none_short}
 use Rattle.kernel_store.proofs.Waits.{waits_none}
 use Rattle.kernel_store.proofs.store.Store.new.Goals as goal

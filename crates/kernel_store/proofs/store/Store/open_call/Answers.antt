@@ -2,17 +2,17 @@ use Rattle.kernel_store.proofs.Knowing.{knows_changed, turned_still}
 use Rattle.std.proofs.Common.{◌≡◌, ◌<◌, ◌≤◌, ◌+◌, ℕ, false, ap, refl, sym, ◌∙◌, is_some, true, subst, arith, rules}
 use Rattle.dk_base.specs.ByNumber.{at_number}
 use Rattle.dk_base.specs.declared.limits.TheConstants.{QUEUE_MAX}
-use Rattle.kernel_records.specs.declared.record.ThreadState.TheVariants as is
-use Rattle.kernel_records.specs.Words.{ProcessTable, is_pool, open_call, pool_in, set_thread_state, waiting_call, thread_at_state}
-use Rattle.written_kernel.specs.Types.{Call, Pool}
-use Rattle.written_kernel.specs.Words.{calls_waiting, is_running_state, is_valid, pool_of}
+use Rattle.spec_records.specs.declared.record.ThreadState.TheVariants as is
+use Rattle.spec_records.specs.Words.{ProcessTable, is_pool, open_call, pool_in, set_thread_state, waiting_call, thread_at_state}
+use Rattle.spec_kernel.specs.Types.{Call, Pool}
+use Rattle.spec_kernel.specs.Words.{calls_waiting, is_running_state, is_valid, pool_of}
 use Rattle.call_tree.specs.Words.{queued_call}
-use Rattle.call_agreement.proofs.Backing.{call_opened, running_there, running_waits_not}
-use Rattle.call_agreement.proofs.Free.{is_thread}
+use Rattle.law_calls.proofs.Backing.{call_opened, running_there, running_waits_not}
+use Rattle.law_calls.proofs.Free.{is_thread}
 use Rattle.server_pool.specs.Words.{PoolsValue, count_calls, enqueue_in, item_room_in, pool_at, queue_in}
-use Rattle.pool_agreement.specs.Words.{Agrees, IsGivenOutIn}
-use Rattle.pool_agreement.proofs.Queues.{agrees_open, queue_length_agrees}
-use Rattle.pool_agreement.proofs.Stacks.{agrees_turn}
+use Rattle.law_pools.specs.Words.{Agrees, IsGivenOutIn}
+use Rattle.law_pools.proofs.Queues.{agrees_open, queue_length_agrees}
+use Rattle.law_pools.proofs.Stacks.{agrees_turn}
 use Rattle.kernel_store.specs.Stored.{ArePlaced, HasRoom, StoreValue, stored_state}
 use Rattle.kernel_store.proofs.Acts.{running_not_dormant, running_not_idle, state_is}
 use Rattle.kernel_store.proofs.ItemRoom.{room_enqueued}

@@ -1,6 +1,6 @@
 use Rattle.std.proofs.Common.{◌≤◌, ◌∙◌, ap, rules, sym, subst}
 use Rattle.server_pool.specs.Words.{PoolsValue, item_room_in, thread_room_in}
-use Rattle.pool_agreement.specs.Words.{IsGivenOut}
+use Rattle.law_pools.specs.Words.{IsGivenOut}
 use Rattle.kernel_store.specs.Stored.{StoreValue}
 use Rattle.exit_paths.specs.Words.{HasNoLessRoom, HoldsSame}
 use Rattle.kernel_store.proofs.Acts.{fills, fills_same}

@@ -1,5 +1,5 @@
 use Rattle.std.proofs.Common.{rules, subst, sym, ap, arith}
-use Rattle.pool_agreement.specs.Words.{IsGivenOut}
+use Rattle.law_pools.specs.Words.{IsGivenOut}
 use Rattle.server_pool.specs.Words.{item_room_in}
 use Rattle.kernel_store.specs.Stored.{StoreValue}
 use Rattle.kernel_store.proofs.Acts.{fills}

@@ -1,11 +1,11 @@
 use Rattle.kernel_store.proofs.Knowing.{idle_still, knows_changed}
 use Rattle.std.proofs.Common.{subst, sym, ◌+◌, ap, refl, rules, ◌∙◌}
-use Rattle.kernel_records.specs.Words.{idle_thread, tid}
+use Rattle.spec_records.specs.Words.{idle_thread, tid}
 use Rattle.exit_paths.specs.Words.{own_pool_in}
-use Rattle.written_kernel.specs.Words.{is_running_state}
-use Rattle.call_agreement.proofs.Backing.{returned_turns}
-use Rattle.pool_agreement.proofs.Noticing.{agrees_end_notice, list_is_kept}
-use Rattle.pool_agreement.proofs.Queues.{agrees_return}
+use Rattle.spec_kernel.specs.Words.{is_running_state}
+use Rattle.law_calls.proofs.Backing.{returned_turns}
+use Rattle.law_pools.proofs.Noticing.{agrees_end_notice, list_is_kept}
+use Rattle.law_pools.proofs.Queues.{agrees_return}
 use Rattle.kernel_store.proofs.Acts.{running_not_done, running_not_dormant, running_not_idle, state_is}
 use Rattle.kernel_store.proofs.LostDoor.{lost_not_valid}
 use Rattle.kernel_store.proofs.Parking.{can_park, parked_here, parked_keeps, parked_queues}

@@ -1,12 +1,12 @@
 use Rattle.kernel_store.proofs.Knowing.{knows_changed, outside_still}
 use Rattle.std.proofs.Common.{subst, sym, rules, None, refl, ap, ◌∙◌}
-use Rattle.kernel_records.specs.Words.{thread_outside, unbind_thread}
-use Rattle.pool_agreement.proofs.Noticing.{agrees_end_notice, list_is_kept}
-use Rattle.pool_agreement.proofs.Queues.{agrees_return}
-use Rattle.pool_agreement.proofs.Unparking.{agrees_alike}
+use Rattle.spec_records.specs.Words.{thread_outside, unbind_thread}
+use Rattle.law_pools.proofs.Noticing.{agrees_end_notice, list_is_kept}
+use Rattle.law_pools.proofs.Queues.{agrees_return}
+use Rattle.law_pools.proofs.Unparking.{agrees_alike}
 use Rattle.kernel_store.proofs.Acts.{fills, bound, given_out_bound, state_is}
-use Rattle.written_kernel.specs.Words.{is_running_state}
-use Rattle.call_agreement.proofs.Backing.{returned_turns}
+use Rattle.spec_kernel.specs.Words.{is_running_state}
+use Rattle.law_calls.proofs.Backing.{returned_turns}
 use Rattle.unref_notice.specs.Words.{IsAllEntered}
 use Rattle.kernel_store.specs.Held.{AreHeld}
 use Rattle.kernel_store.specs.Stored.{StoreValue, stored_state}

@@ -1,7 +1,7 @@
 use Rattle.std.proofs.Common.{ap, sym, ◌∙◌, arith}
-use Rattle.kernel_records.specs.Words.{first_refusal, revoke_tests}
-use Rattle.written_kernel.specs.Words.{door_of}
-use Rattle.pool_agreement.proofs.Leaving.{agrees_revoke}
+use Rattle.spec_records.specs.Words.{first_refusal, revoke_tests}
+use Rattle.spec_kernel.specs.Words.{door_of}
+use Rattle.law_pools.proofs.Leaving.{agrees_revoke}
 use Rattle.kernel_store.specs.Stored.{StoreValue, stored_state}
 use Rattle.kernel_store.proofs.There.{there_doors}
 use Rattle.kernel_store.proofs.store.Store.revoke.Goals as goal

@@ -1,9 +1,9 @@
 use Rattle.std.proofs.Common.{◌&&◌, ap, find, is_some, subst, ◌∙◌}
-use Rattle.kernel_records.specs.Words.{state_in, thread_at}
+use Rattle.spec_records.specs.Words.{state_in, thread_at}
 use Rattle.proc_table.specs.Words.{goes_on}
-use Rattle.call_agreement.specs.Words.{AreBacked}
+use Rattle.law_calls.specs.Words.{AreBacked}
 use Rattle.call_tree.specs.Words.{CallsValue, is_ready_of}
-use Rattle.thread_set.specs.Words.{has}
+use Rattle.dk_base.specs.Words.{has}
 use Rattle.kernel_store.specs.Stored.{StoreValue}
 use Rattle.kernel_store.specs.Turning.{has_ended_at, is_found_at}
 use Rattle.kernel_store.proofs.Turns.{found_is, held_of, turns_are}

@@ -1,7 +1,7 @@
 use Rattle.std.proofs.Common.{◌≡◌, ◌||◌, ap, option_map, sym, length, ◌∙◌}
-use Rattle.pool_agreement.specs.Words.{is_this}
-use Rattle.written_kernel.specs.Words.{State, give, has_given_last}
-use Rattle.written_kernel.proofs.Failing.{doors-fail_returns}
+use Rattle.law_pools.specs.Words.{is_this}
+use Rattle.spec_kernel.specs.Words.{State, give, has_given_last}
+use Rattle.spec_kernel.proofs.Failing.{doors-fail_returns}
 use Rattle.kernel_store.specs.Frames.{serves_any}
 use Rattle.kernel_store.specs.Giving.{IsServed}
 use Rattle.kernel_store.specs.Stored.{stored_state}

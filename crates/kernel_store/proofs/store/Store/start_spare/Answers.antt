@@ -1,14 +1,14 @@
 use Rattle.kernel_store.proofs.Knowing.{knows_changed, turned_still}
 use Rattle.std.proofs.Common.{true, ap, length, refl, subst, ◌∙◌}
-use Rattle.written_kernel.specs.Words.{State, start_one}
+use Rattle.spec_kernel.specs.Words.{State, start_one}
 use Rattle.kernel_store.proofs.AnyOrder.{processes_started}
 use Rattle.server_pool.specs.Words.{change_at_number, change_spares, without_lowest}
 use Rattle.kernel_store.specs.Stored.{IsAgreed, stored_state}
 use Rattle.kernel_store.specs.contracts.store.Store.{the_view}
 use Rattle.kernel_store.proofs.Spares.{agrees_started, agrees_unstarted, given_out-spares, spare_is_dormant, spare_not_done, spare_not_idle, state_started, state_unstarted}
-use Rattle.kernel_records.specs.declared.record.ThreadState.TheVariants as is
-use Rattle.kernel_records.specs.Words.{thread_at_state}
-use Rattle.call_agreement.proofs.Backing.{dormant_turns}
+use Rattle.spec_records.specs.declared.record.ThreadState.TheVariants as is
+use Rattle.spec_records.specs.Words.{thread_at_state}
+use Rattle.law_calls.proofs.Backing.{dormant_turns}
 use Rattle.kernel_store.proofs.Short.{room_spares}
 use Rattle.kernel_store.proofs.Waits.{turned_gets_not, waits_changed}
 use Rattle.kernel_store.proofs.store.Store.start_spare.Goals as goal

@@ -1,7 +1,7 @@
 use Rattle.std.proofs.Common.{ap, ◌∙◌}
 use Rattle.dk_base.specs.ByNumber.{at_number}
 use Rattle.dk_base.specs.declared.object.Obj.TheVariants as obj
-use Rattle.written_kernel.specs.Words.{reference_count, references_of}
+use Rattle.spec_kernel.specs.Words.{reference_count, references_of}
 use Rattle.kernel_store.specs.Stored.{StoreValue, stored_state}
 use Rattle.kernel_store.proofs.store.Store.start_step.Goals as goal
 

@@ -1,5 +1,5 @@
 use Rattle.std.proofs.Common.{ap, refl, ◌∙◌}
-use Rattle.kernel_records.specs.Words.{port_of}
+use Rattle.spec_records.specs.Words.{port_of}
 use Rattle.kernel_store.proofs.PortWaits.{port_elsewhere}
 use Rattle.kernel_store.proofs.store.Store.take_found.Goals as goal
 

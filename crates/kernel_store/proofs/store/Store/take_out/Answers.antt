@@ -1,6 +1,6 @@
 use Rattle.std.proofs.Common.{◌∙◌, rules}
 use Rattle.dk_base.specs.declared.object.Obj.TheVariants as obj
-use Rattle.kernel_records.specs.Words.{objects_passed, table_in}
+use Rattle.spec_records.specs.Words.{objects_passed, table_in}
 use Rattle.kernel_store.proofs.There.{there_fewer}
 use Rattle.kernel_store.proofs.Waits.{no_port, passed_port}
 use Rattle.kernel_store.proofs.store.Store.take_out.Goals as goal

@@ -1,10 +1,10 @@
 use Rattle.std.proofs.Common.{List, ap, length, subst, sym, ◌∙◌}
-use Rattle.act_changes.proofs.Told.{leaves_to_tell}
-use Rattle.act_changes.specs.Ended.{empty_rows, timers_ended}
-use Rattle.associated_ports.specs.Words.{HasRoomToEnd}
-use Rattle.written_kernel.specs.Types.{Obj}
-use Rattle.kernel_records.specs.Words.{TimerList}
-use Rattle.written_kernel.specs.Words.{State, associations_in, fire, timers_in, with_channels}
+use Rattle.law_channels.proofs.Told.{leaves_to_tell}
+use Rattle.law_channels.specs.Ended.{empty_rows, timers_ended}
+use Rattle.kernel_ports.specs.Words.{HasRoomToEnd}
+use Rattle.spec_kernel.specs.Types.{Obj}
+use Rattle.spec_records.specs.Words.{TimerList}
+use Rattle.spec_kernel.specs.Words.{State, associations_in, fire, timers_in, with_channels}
 use Rattle.kernel_store.specs.Stored.{stored_state}
 use Rattle.kernel_store.specs.Telling.{AreNamed, closing_of}
 use Rattle.kernel_store.proofs.Naming.{ended_lost, ended_timers, left_named}

@@ -2,9 +2,9 @@ use Rattle.name_space.specs.Words.{NameTable}
 use Rattle.kernel_store.specs.Turning.{is_found_at}
 use Rattle.kernel_store.proofs.Knowing.{knows_turned}
 use Rattle.std.proofs.Common.{ap, ◌∙◌}
-use Rattle.call_agreement.specs.Words.{is_calling, is_given_item}
-use Rattle.kernel_records.specs.Words.{is_done}
-use Rattle.call_agreement.proofs.Backing.{turned as turned_backed}
+use Rattle.law_calls.specs.Words.{is_calling, is_given_item}
+use Rattle.spec_records.specs.Words.{is_done}
+use Rattle.law_calls.proofs.Backing.{turned as turned_backed}
 use Rattle.kernel_store.proofs.Acts.{inside_dormant, inside_idle, state_is, turned}
 use Rattle.kernel_store.proofs.Waits.{waits_turned}
 use Rattle.kernel_store.proofs.store.Store.turn.Goals as goal

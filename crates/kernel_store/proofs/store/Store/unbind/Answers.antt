@@ -1,5 +1,5 @@
 use Rattle.std.proofs.Common.{rules, None}
-use Rattle.kernel_records.specs.Words.{unbind_thread}
+use Rattle.spec_records.specs.Words.{unbind_thread}
 use Rattle.kernel_store.proofs.Acts.{fills, bound, given_out_bound}
 use Rattle.kernel_store.proofs.Short.{room_bound}
 use Rattle.kernel_store.proofs.store.Store.unbind.Goals as goal

@@ -1,13 +1,13 @@
 use Rattle.kernel_store.specs.Turning.{KnowsPaths}
 use Rattle.std.proofs.Common.{rules, ◌+◌, ◌∷◌, [], ap, arith, length, length-append, refl, sym, subst}
-use Rattle.kernel_records.specs.Words.{ProcessTable, new_process, pid}
+use Rattle.spec_records.specs.Words.{ProcessTable, new_process, pid}
 use Rattle.server_pool.specs.Words.{PoolsValue}
-use Rattle.pool_agreement.specs.Words.{Agrees, IsGivenOut}
-use Rattle.pool_agreement.proofs.Starting.{agrees_process}
+use Rattle.law_pools.specs.Words.{Agrees, IsGivenOut}
+use Rattle.law_pools.proofs.Starting.{agrees_process}
 use Rattle.kernel_store.specs.Stored.{StoreValue}
 use Rattle.kernel_store.proofs.Alike.{given_out_process}
-use Rattle.call_agreement.specs.Words.{AreBacked}
-use Rattle.call_agreement.proofs.Backing.{processes_changed}
+use Rattle.law_calls.specs.Words.{AreBacked}
+use Rattle.law_calls.proofs.Backing.{processes_changed}
 use Rattle.kernel_store.proofs.There.{there_fewer}
 use Rattle.kernel_store.proofs.Short.{room_process}
 use Rattle.kernel_store.proofs.Waits.{waits_kept}

@@ -1,6 +1,6 @@
 use Rattle.std.proofs.Common.{◌≡◌, false, is_some, nat_eq, ap, ◌∙◌}
 use Rattle.indexmap.proofs.CallerLemmas.{insert_entry-new}
-use Rattle.kernel_records.specs.Words.{name_in}
+use Rattle.spec_records.specs.Words.{name_in}
 use Rattle.name_space.specs.NameTable.{names_in}
 use Rattle.name_space.proofs.Entries.{attached, none_there}
 use Rattle.name_space.proofs.names.Names.attach_free.Goals as goal

@@ -1,5 +1,5 @@
 use Rattle.std.proofs.Common.{◌≡◌, ◌+◌, ap, arith, refl, ◌∙◌}
-use Rattle.kernel_records.specs.Words.{association_at, has_key, new_association}
+use Rattle.spec_records.specs.Words.{association_at, has_key, new_association}
 use Rattle.port_assoc.proofs.Counted.{few_counted, made_counted}
 use Rattle.port_assoc.proofs.Lists.{none-among-others}
 use Rattle.port_assoc.proofs.Numbers.{numbers_made}

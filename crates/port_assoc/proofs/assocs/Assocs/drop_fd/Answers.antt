@@ -1,5 +1,5 @@
 use Rattle.std.proofs.Common.{◌≡◌, None, Some, ap, arith, filter, find, length, sym, ◌∙◌}
-use Rattle.kernel_records.specs.Words.{association_number, association_port, is_of_other_row, is_of_row}
+use Rattle.spec_records.specs.Words.{association_number, association_port, is_of_other_row, is_of_row}
 use Rattle.port_assoc.proofs.Lists.{all-told, fewer-left, none-left, one-told, others-alone, others-left}
 use Rattle.port_assoc.proofs.assocs.Assocs.drop_fd.Goals as goal
 

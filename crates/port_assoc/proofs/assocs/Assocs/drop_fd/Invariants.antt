@@ -1,5 +1,5 @@
 use Rattle.std.proofs.Common.{◌≡◌, ◌≤◌, ◌++◌, length, filter}
-use Rattle.kernel_records.specs.Words.{associations_of_row, is_of_other_row, numbers_of, ports_of}
+use Rattle.spec_records.specs.Words.{associations_of_row, is_of_other_row, numbers_of, ports_of}
 use Rattle.port_assoc.specs.Words.{KeepsRoom}
 use Rattle.port_assoc.proofs.assocs.Assocs.drop_fd.Given as goal
 

@@ -1,5 +1,5 @@
 use Rattle.std.proofs.Common.{◌≡◌, Some, ap, sym, ◌∙◌}
-use Rattle.kernel_records.specs.Words.{association_at, has_key}
+use Rattle.spec_records.specs.Words.{association_at, has_key}
 use Rattle.port_assoc.proofs.Apart.{alone_of_key, found_by_key}
 use Rattle.port_assoc.proofs.Ended.{ended_list, nothing_ends}
 use Rattle.port_assoc.proofs.assocs.Assocs.end.Goals as goal

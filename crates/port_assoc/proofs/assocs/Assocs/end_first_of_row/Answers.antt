@@ -1,5 +1,5 @@
 use Rattle.std.proofs.Common.{◌≡◌, Some, ap, arith, find, sym, ◌∙◌}
-use Rattle.kernel_records.specs.Words.{is_of_row}
+use Rattle.spec_records.specs.Words.{is_of_row}
 use Rattle.port_assoc.specs.Keys.{row_at}
 use Rattle.port_assoc.specs.Rows.{count_at}
 use Rattle.port_assoc.proofs.Apart.{found_by_key, left_by_key}

@@ -1,5 +1,5 @@
 use Rattle.std.proofs.Common.{◌≡◌, Some, ap, ◌∙◌}
-use Rattle.kernel_records.specs.Words.{association_at, has_key}
+use Rattle.spec_records.specs.Words.{association_at, has_key}
 use Rattle.port_assoc.proofs.Counted.{left_counted}
 use Rattle.port_assoc.proofs.Numbers.{numbers_left}
 use Rattle.port_assoc.proofs.Watching.{watches_ended}

@@ -1,5 +1,5 @@
-use Rattle.kernel_records.specs.Words.{association_number, is_of_other_process}
-use Rattle.kernel_records.proofs.NumberedLists.{ascending-filter}
+use Rattle.spec_records.specs.Words.{association_number, is_of_other_process}
+use Rattle.spec_records.proofs.NumberedLists.{ascending-filter}
 use Rattle.port_assoc.proofs.Counted.{process_counted}
 use Rattle.port_assoc.proofs.assocs.Assocs.end_process.Goals as goal
 

@@ -1,6 +1,6 @@
 use Rattle.std.proofs.Common.{Some, ap, option_map, sym, ◌∙◌}
-use Rattle.kernel_records.specs.Words.{disarmed, fired_of, is_fired_by}
-use Rattle.kernel_records.proofs.Places.{change_first-none}
+use Rattle.spec_records.specs.Words.{disarmed, fired_of, is_fired_by}
+use Rattle.spec_records.proofs.Places.{change_first-none}
 use Rattle.port_assoc.proofs.Counted.{fired_counted}
 use Rattle.port_assoc.proofs.Numbers.{numbers_fired}
 use Rattle.port_assoc.proofs.Watching.{disarmed_first, first_watched, watched_fired, watched_still}

@@ -1,5 +1,5 @@
 use Rattle.std.proofs.Common.{ap, ◌∙◌}
-use Rattle.kernel_records.specs.Words.{number_in}
+use Rattle.spec_records.specs.Words.{number_in}
 use Rattle.port_assoc.proofs.Watching.{first_watched}
 use Rattle.port_assoc.proofs.assocs.Assocs.first_told.Goals as goal
 

@@ -1,5 +1,5 @@
 use Rattle.std.proofs.Common.{◌≡◌, None, ap, filter, find, sym, ◌∙◌}
-use Rattle.kernel_records.specs.Words.{has_number, has_other_number}
+use Rattle.spec_records.specs.Words.{has_number, has_other_number}
 use Rattle.port_assoc.proofs.Apart.{found_by_key, left_by_key}
 use Rattle.port_assoc.proofs.Lists.{others-alone}
 use Rattle.port_assoc.proofs.Rising.{all_of_number}

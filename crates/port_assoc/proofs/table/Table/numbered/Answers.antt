@@ -1,6 +1,6 @@
 use Rattle.std.proofs.Common.{◌≡◌, None, Some, ap, arith, false, if◌then◌else◌, sym, true, ◌∙◌}
 use Rattle.std.proofs.lemmas.Bool.Decides.{nat_tests}
-use Rattle.kernel_records.specs.Words.{has_number}
+use Rattle.spec_records.specs.Words.{has_number}
 use Rattle.port_assoc.proofs.Rising.{at_point, only, parted}
 use Rattle.port_assoc.proofs.table.Table.numbered.Goals as goal
 

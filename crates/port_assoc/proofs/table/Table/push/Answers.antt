@@ -1,6 +1,6 @@
 use Rattle.std.proofs.Common.{◌≡◌, None, ap, ◌∙◌}
 use Rattle.indexmap.proofs.CallerLemmas.{insert_entry-new}
-use Rattle.kernel_records.specs.Words.{association_at}
+use Rattle.spec_records.specs.Words.{association_at}
 use Rattle.port_assoc.specs.Keys.{key_of, same_key}
 use Rattle.port_assoc.specs.Table.{associations_in}
 use Rattle.port_assoc.proofs.Entries.{none_at, pushed}

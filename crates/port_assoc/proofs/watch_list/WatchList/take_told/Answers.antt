@@ -1,6 +1,6 @@
 use Rattle.std.proofs.Common.{◌≡◌, Some, ap, position, sym, ◌∙◌}
-use Rattle.kernel_records.specs.Words.{is_told}
-use Rattle.kernel_records.proofs.Places.{found_there}
+use Rattle.spec_records.specs.Words.{is_told}
+use Rattle.spec_records.proofs.Places.{found_there}
 use Rattle.port_assoc.proofs.watch_list.WatchList.take_told.Goals as goal
 
 pub returns-clause-result : goal.returns-clause-result

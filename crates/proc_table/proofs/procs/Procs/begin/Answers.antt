@@ -1,6 +1,6 @@
 use Rattle.std.proofs.Common.{rules, subst, sym}
 use Rattle.proc_table.specs.Crews.{AreCrews}
-use Rattle.kernel_records.specs.Words.{begun_thread}
+use Rattle.spec_records.specs.Words.{begun_thread}
 use Rattle.proc_table.proofs.Members.{crews_begun, put_back}
 use Rattle.proc_table.proofs.procs.Procs.begin.Goals as goal
 

@@ -1,6 +1,6 @@
 use Rattle.std.proofs.Common.{ap, ◌∙◌, arith}
 use Rattle.std.proofs.lemmas.List.{length-set}
-use Rattle.kernel_records.specs.Words.{thread_outside}
+use Rattle.spec_records.specs.Words.{thread_outside}
 use Rattle.proc_table.proofs.Members.{crews_kept}
 use Rattle.proc_table.proofs.Noting.{changed, noted_same}
 use Rattle.proc_table.proofs.procs.Procs.end_invocation.Goals as goal

@@ -1,7 +1,7 @@
 use Rattle.std.proofs.Common.{◌≡◌, ℕ, sym, ap, ◌∙◌, subst}
 use Rattle.dk_base.specs.ByNumber.{at_number}
-use Rattle.kernel_records.specs.Words.{ProcessTable, is_idle, is_idle_thread, state_in}
-use Rattle.thread_set.specs.Words.{has}
+use Rattle.spec_records.specs.Words.{ProcessTable, is_idle, is_idle_thread, state_in}
+use Rattle.dk_base.specs.Words.{has}
 use Rattle.proc_table.proofs.Others.{any_numbered, meets_idle, none_numbered}
 use Rattle.proc_table.proofs.procs.Procs.has_idle.Goals as goal
 

@@ -1,6 +1,6 @@
 use Rattle.std.proofs.Common.{ap, ◌∙◌, arith}
 use Rattle.std.proofs.lemmas.List.{length-set}
-use Rattle.kernel_records.specs.Words.{interrupted_thread}
+use Rattle.spec_records.specs.Words.{interrupted_thread}
 use Rattle.proc_table.proofs.Members.{crews_kept}
 use Rattle.proc_table.proofs.Noting.{changed, noted_set}
 use Rattle.proc_table.proofs.procs.Procs.interrupt.Goals as goal

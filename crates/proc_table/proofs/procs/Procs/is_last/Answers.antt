@@ -1,8 +1,8 @@
 use Rattle.std.proofs.Common.{◌≡◌, ℕ, Some, not, sym, ap, ◌∙◌, subst}
 use Rattle.dk_base.specs.ByNumber.{at_number}
-use Rattle.kernel_records.specs.declared.record.Thread.{Thread}
-use Rattle.kernel_records.specs.Words.{ProcessTable, is_active, keeps_alive, state_in}
-use Rattle.thread_set.specs.Words.{has}
+use Rattle.spec_records.specs.declared.record.Thread.{Thread}
+use Rattle.spec_records.specs.Words.{ProcessTable, is_active, keeps_alive, state_in}
+use Rattle.dk_base.specs.Words.{has}
 use Rattle.proc_table.proofs.Others.{any_numbered, none_numbered, others}
 use Rattle.proc_table.proofs.procs.Procs.is_last.Goals as goal
 

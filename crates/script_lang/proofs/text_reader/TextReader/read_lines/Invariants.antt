@@ -1,5 +1,5 @@
 use Rattle.std.proofs.Common.{◌≡◌, ◌+◌, ◌<◌, ◌^◌, length}
-use Rattle.script_text.specs.Words.{lines_of}
+use Rattle.line_text.specs.Words.{lines_of}
 use Rattle.script_lang.specs.TextReaderContracts.{IsInStep, remaining_result}
 use Rattle.script_lang.proofs.text_reader.TextReader.read_lines.Given as goal
 

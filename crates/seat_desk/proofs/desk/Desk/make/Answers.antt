@@ -1,5 +1,5 @@
 use Rattle.std.proofs.Common.{◌++◌, ◌∷◌, [], List, ◌≡◌, ap, sym, ◌∙◌}
-use Rattle.seat_calls.specs.declared.entry.SeatEntry.{SeatEntry}
+use Rattle.spec_histories.specs.declared.entry.SeatEntry.{SeatEntry}
 use Rattle.seat_desk.proofs.Desks.{grown, made, may_reply}
 use Rattle.seat_desk.proofs.desk.Desk.make.Goals as goal
 

@@ -1,6 +1,6 @@
 use Rattle.std.proofs.Common.{◌≡◌, ℕ, zero, suc, ◌<◌, List, [], ◌∷◌, Option, get_or, length, take, refl, ap, ◌∙◌, add-one, arith}
 use Rattle.dk_base.specs.declared.number.Tid.{Tid}
-use Rattle.kernel_records.specs.Words.{unbind_thread}
+use Rattle.spec_records.specs.Words.{unbind_thread}
 use Rattle.server_pool.specs.Words.{PoolsValue, unbind_each}
 use Rattle.server_pool.proofs.pools.Pools.unbind_all.Goals as goal
 

@@ -1,5 +1,5 @@
 use Rattle.std.proofs.Common.{◌+◌, ap, sym, ◌∙◌, subst, option_map}
-use Rattle.written_script.specs.Words.{tid_number}
+use Rattle.spec_scripts.specs.Words.{tid_number}
 use Rattle.sys_run.specs.Playing.{first_events}
 use Rattle.sys_run.specs.Schedules.{IsBefore, refusal_at}
 use Rattle.sys_run.specs.Sys.{state_of_run}

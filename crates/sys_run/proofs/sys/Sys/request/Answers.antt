@@ -1,7 +1,7 @@
 use Rattle.std.proofs.Common.{◌≡◌, IfOk, arith, refl, subst}
 use Rattle.std.proofs.lemmas.Option.{slice_get_read}
 use Rattle.std.proofs.lemmas.Result.{IfOk-weaker}
-use Rattle.script_requests.specs.Words.{Frame, request_after, request_of}
+use Rattle.spec_requests.specs.Words.{Frame, request_after, request_of}
 use Rattle.thread_machine.specs.Words.{Stands}
 use Rattle.sys_run.specs.Sys.{SysValue}
 use Rattle.sys_run.proofs.Systems.{has_machine, machine-stands, HasMachine}

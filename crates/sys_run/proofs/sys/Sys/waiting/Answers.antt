@@ -1,7 +1,7 @@
 use Rattle.std.specs.Prelude.{◌≡◌, All}
 use Rattle.std.proofs.lemmas.Result.{IfOk-weaker}
-use Rattle.written_kernel.specs.Words.{waiting_threads}
-use Rattle.script_requests.specs.Words.{IsDeclaredThread}
+use Rattle.spec_kernel.specs.Words.{waiting_threads}
+use Rattle.spec_requests.specs.Words.{IsDeclaredThread}
 use Rattle.sys_run.proofs.Looks.{waiting-known}
 use Rattle.sys_run.proofs.sys.Sys.waiting.Goals as goal
 

@@ -1,7 +1,7 @@
 use Rattle.std.proofs.Common.{◌≡◌, ◌∙◌, ap, sym, Some, None}
 use Rattle.std.specs.Prelude.{slice_get}
 use Rattle.script_lang.specs.Words.{canonical_text}
-use Rattle.script_requests.specs.Words.{request_at_end}
+use Rattle.spec_requests.specs.Words.{request_at_end}
 use Rattle.thread_machine.specs.Machines.{machine_lines}
 use Rattle.thread_machine.proofs.Frames.{next-command, next-end}
 use Rattle.thread_machine.proofs.Positions.{slice_get-seen, slice_get-none}

@@ -1,6 +1,6 @@
 use Rattle.std.proofs.Common.{ℕ, ◌∙◌, List, [], sym, subst, refl, arith}
 use Rattle.std.specs.Prelude.{codes}
-use Rattle.script_requests.specs.Words.{no_variables, set_variable, with_both}
+use Rattle.spec_requests.specs.Words.{no_variables, set_variable, with_both}
 use Rattle.thread_machine.specs.Slots.{Slot, Holds, greatest_name}
 use Rattle.thread_machine.proofs.Slotted.{Holds-none}
 use Rattle.thread_machine.proofs.machine.Machine.set_arguments.Goals as goal

@@ -1,6 +1,6 @@
 use Rattle.std.proofs.Common.{sym, subst, Some}
 use Rattle.script_lang.specs.Words.{canonical_text}
-use Rattle.script_requests.specs.Words.{Frame, set_each, steps_after, values_of, vars_ahead}
+use Rattle.spec_requests.specs.Words.{Frame, set_each, steps_after, values_of, vars_ahead}
 use Rattle.thread_machine.specs.Machines.{Stands}
 use Rattle.thread_machine.proofs.Frames.{settled, enters-placed, frame_after_answer-ends}
 use Rattle.thread_machine.proofs.ScriptBodies.{spelled-body}

@@ -1,5 +1,5 @@
 use Rattle.std.proofs.Common.{◌≡◌, ◌-◌, length}
-use Rattle.script_requests.specs.Words.{next_steps}
+use Rattle.spec_requests.specs.Words.{next_steps}
 use Rattle.thread_machine.specs.LastAnswers.{is_met_in}
 use Rattle.thread_machine.specs.Places.{StandsAt, steps_from}
 use Rattle.thread_machine.proofs.place.Place.settle.Given as goal

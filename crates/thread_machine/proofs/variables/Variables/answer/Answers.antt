@@ -1,7 +1,7 @@
 use Rattle.std.proofs.Common.{ℕ, ◌∙◌, List, [], ap, sym, subst}
-use Rattle.script_text.specs.Types.{Fd}
+use Rattle.line_text.specs.Types.{Fd}
 use Rattle.std.specs.Prelude.{option_copied}
-use Rattle.script_requests.specs.Words.{Variables, values_of, vars_of, with_both, with_bytes, with_descriptor}
+use Rattle.spec_requests.specs.Words.{Variables, values_of, vars_of, with_both, with_bytes, with_descriptor}
 use Rattle.thread_machine.specs.Slots.{IsShort, visible_value, set_some}
 use Rattle.thread_machine.proofs.SpelledLines.{vars-short}
 use Rattle.thread_machine.proofs.Slotted.{one-answer, two-answers}

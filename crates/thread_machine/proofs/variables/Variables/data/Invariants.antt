@@ -1,6 +1,6 @@
 use Rattle.std.proofs.Common.{◌≡◌, take}
 use Rattle.std.specs.Prelude.{flat_map}
-use Rattle.script_requests.specs.Words.{greatest_data, piece_bytes}
+use Rattle.spec_requests.specs.Words.{greatest_data, piece_bytes}
 use Rattle.thread_machine.specs.Slots.{slot_value}
 use Rattle.thread_machine.proofs.variables.Variables.«data».Given as goal
 

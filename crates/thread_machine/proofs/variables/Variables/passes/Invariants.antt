@@ -1,6 +1,6 @@
 use Rattle.std.proofs.Common.{◌≡◌, take}
 use Rattle.std.specs.Prelude.{map}
-use Rattle.script_requests.specs.Words.{pass_of}
+use Rattle.spec_requests.specs.Words.{pass_of}
 use Rattle.thread_machine.specs.Slots.{slot_value}
 use Rattle.thread_machine.proofs.variables.Variables.passes.Given as goal
 

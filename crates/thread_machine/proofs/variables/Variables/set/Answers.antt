@@ -1,5 +1,5 @@
 use Rattle.std.proofs.Common.{◌≡◌, ◌<◌, ◌≤◌, length, take, ap, arith}
-use Rattle.script_requests.specs.Words.{with_both}
+use Rattle.spec_requests.specs.Words.{with_both}
 use Rattle.thread_machine.specs.Slots.{Slots, place_of}
 use Rattle.thread_machine.proofs.Slotted.{place-within, set-next, set-there}
 use Rattle.thread_machine.proofs.variables.Variables.set.Goals as goal

@@ -1,6 +1,6 @@
 use Rattle.std.proofs.Common.{◌≡◌, None, ap, ◌∙◌}
 use Rattle.indexmap.proofs.CallerLemmas.{insert_entry-new}
-use Rattle.kernel_records.specs.Words.{timer_at}
+use Rattle.spec_records.specs.Words.{timer_at}
 use Rattle.timer_src.specs.Keys.{key_at, same_key}
 use Rattle.timer_src.specs.Table.{timers_in}
 use Rattle.timer_src.proofs.Entries.{none_at, pushed}

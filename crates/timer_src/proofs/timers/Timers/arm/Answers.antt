@@ -1,7 +1,7 @@
 use Rattle.std.proofs.Common.{◌≡◌, Option, Some, ◌++◌, ◌∙◌, ap, arith, filter, length, sym}
-use Rattle.kernel_records.proofs.Places.{length-change_first}
-use Rattle.kernel_records.specs.declared.timer.Arming.{Arming}
-use Rattle.kernel_records.specs.Words.{is_timer, with_arming}
+use Rattle.spec_records.proofs.Places.{length-change_first}
+use Rattle.spec_records.specs.declared.timer.Arming.{Arming}
+use Rattle.spec_records.specs.Words.{is_timer, with_arming}
 use Rattle.timer_src.specs.Pending.{is_above, is_below}
 use Rattle.timer_src.proofs.Kept.{first_moment, kept_set, ordered, roomy}
 use Rattle.timer_src.proofs.timers.Timers.arm.Goals as goal

@@ -1,5 +1,5 @@
 use Rattle.std.proofs.Common.{◌∙◌, ap, arith, length, sym}
-use Rattle.kernel_records.specs.Words.{is_other_timer}
+use Rattle.spec_records.specs.Words.{is_other_timer}
 use Rattle.timer_src.proofs.Alone.{nothing_deleted}
 use Rattle.timer_src.proofs.Kept.{kept_deleted, ordered, shorter}
 use Rattle.timer_src.proofs.timers.Timers.delete.Goals as goal

@@ -1,6 +1,6 @@
 use Rattle.std.proofs.Common.{None, ◌∙◌, ap, arith, length}
-use Rattle.kernel_records.proofs.Places.{length-change_first}
-use Rattle.kernel_records.specs.Words.{is_timer, with_arming}
+use Rattle.spec_records.proofs.Places.{length-change_first}
+use Rattle.spec_records.specs.Words.{is_timer, with_arming}
 use Rattle.timer_src.proofs.Kept.{kept_set, ordered}
 use Rattle.timer_src.proofs.timers.Timers.disarm.Goals as goal
 

@@ -1,5 +1,5 @@
 use Rattle.std.proofs.Common.{ap, arith, length}
-use Rattle.kernel_records.specs.Words.{is_timer_of_other}
+use Rattle.spec_records.specs.Words.{is_timer_of_other}
 use Rattle.timer_src.proofs.Kept.{kept_ended, shorter}
 use Rattle.timer_src.proofs.timers.Timers.end_process.Goals as goal
 

@@ -1,5 +1,5 @@
 use Rattle.std.proofs.Common.{◌≡◌, ◌∙◌, None, ap, arith, not, is_some, sym, true}
-use Rattle.kernel_records.specs.Words.{timer_at}
+use Rattle.spec_records.specs.Words.{timer_at}
 use Rattle.timer_src.proofs.Free.{all_taken, is_taken, lowest, none_of, one_free, taken_more}
 use Rattle.timer_src.proofs.timers.Timers.lowest_free.Goals as goal
 

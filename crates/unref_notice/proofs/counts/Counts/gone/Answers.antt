@@ -1,6 +1,6 @@
 use Rattle.std.proofs.Common.{◌≡◌, ◌+◌, ◌++◌, ap, arith, length, ◌∙◌}
 use Rattle.std.proofs.lemmas.List.{length-append}
-use Rattle.kernel_records.specs.Words.{count_object}
+use Rattle.spec_records.specs.Words.{count_object}
 use Rattle.unref_notice.specs.Counting.{counts_in, gone_among}
 use Rattle.unref_notice.specs.Words.{has_gone}
 use Rattle.unref_notice.proofs.Gone.{counted_more, gone_each, gone_few, members_more}

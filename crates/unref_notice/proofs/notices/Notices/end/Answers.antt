@@ -1,15 +1,15 @@
 use Rattle.std.proofs.Common.{ℕ, ◌<◌, ◌-◌, ◌==◌, if◌then◌else◌, length, map, ◌≡◌, List, ap, arith, filter, not, refl, remove, rules, subst, sym, ◌∙◌}
 use Rattle.dk_base.specs.ByNumber.{at_number}
-use Rattle.kernel_records.specs.declared.record.Notice.{Notice}
-use Rattle.kernel_records.specs.declared.record.NoticeStage.TheVariants as stage
-use Rattle.kernel_records.specs.Words.{IsAscending, has_many, is_kept_notice, is_notice_entered_by, notice_at, notice_number}
+use Rattle.spec_records.specs.declared.record.Notice.{Notice}
+use Rattle.spec_records.specs.declared.record.NoticeStage.TheVariants as stage
+use Rattle.spec_records.specs.Words.{IsAscending, has_many, is_kept_notice, is_notice_entered_by, notice_at, notice_number}
 use Rattle.unref_notice.specs.DoorCounts.{CountsDoors, door_in, notices_of}
 use Rattle.unref_notice.proofs.DoorCounts.{counts_removed}
 use Rattle.unref_notice.specs.Left.{IsAllEntered, takes_many_in}
 use Rattle.unref_notice.specs.Words.{NoticesValue}
 use Rattle.unref_notice.proofs.Kept.{kept_inside, removed_there, stays_there}
 use Rattle.unref_notice.proofs.Places.{ascending-remove, ascending-set}
-use Rattle.kernel_records.proofs.Places.{changed_nowhere}
+use Rattle.spec_records.proofs.Places.{changed_nowhere}
 use Rattle.unref_notice.proofs.notices.Notices.end.Goals as goal
 
 pub returns-in_default-clause-list : goal.returns-in_default-clause-list

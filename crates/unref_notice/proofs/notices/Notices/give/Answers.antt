@@ -1,7 +1,7 @@
 use Rattle.std.proofs.Common.{refl, subst, sym}
-use Rattle.kernel_records.specs.declared.record.NoticeStage.TheVariants as stage
-use Rattle.kernel_records.specs.Words.{IsAscending, is_waiting_notice_as, notice_at, notice_number, tid}
-use Rattle.kernel_records.proofs.NumberedLists.{ascending-change_first}
+use Rattle.spec_records.specs.declared.record.NoticeStage.TheVariants as stage
+use Rattle.spec_records.specs.Words.{IsAscending, is_waiting_notice_as, notice_at, notice_number, tid}
+use Rattle.spec_records.proofs.NumberedLists.{ascending-change_first}
 use Rattle.unref_notice.specs.DoorCounts.{CountsDoors}
 use Rattle.unref_notice.proofs.notices.Notices.give.Goals as goal
 

@@ -1,5 +1,5 @@
 use Rattle.std.proofs.Common.{ap, nat_lt, ◌∙◌}
-use Rattle.kernel_records.specs.Words.{has_notice}
+use Rattle.spec_records.specs.Words.{has_notice}
 use Rattle.unref_notice.specs.Words.{NoticesValue}
 use Rattle.unref_notice.proofs.DoorCounts.{has_counted}
 use Rattle.unref_notice.proofs.notices.Notices.has.Goals as goal

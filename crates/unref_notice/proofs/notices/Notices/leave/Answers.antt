@@ -1,6 +1,6 @@
 use Rattle.std.proofs.Common.{◌≡◌, ◌++◌, List, ap, filter, map, subst, sym, ◌∙◌}
-use Rattle.kernel_records.specs.declared.record.Notice.{Notice}
-use Rattle.kernel_records.specs.Words.{is_kept_notice, kept_notices, left_notice, left_notices}
+use Rattle.spec_records.specs.declared.record.Notice.{Notice}
+use Rattle.spec_records.specs.Words.{is_kept_notice, kept_notices, left_notice, left_notices}
 use Rattle.unref_notice.specs.DoorCounts.{CountsDoors}
 use Rattle.unref_notice.specs.Left.{AreAllLeft, is_kept_among, left_among}
 use Rattle.unref_notice.specs.Words.{NoticesValue}

@@ -1,6 +1,6 @@
 use Rattle.std.proofs.Common.{arith, map, refl, subst, sym, ◌+◌}
-use Rattle.kernel_records.specs.Words.{IsAscending, notice_number}
-use Rattle.kernel_records.proofs.NumberedLists.{ascending-push}
+use Rattle.spec_records.specs.Words.{IsAscending, notice_number}
+use Rattle.spec_records.proofs.NumberedLists.{ascending-push}
 use Rattle.unref_notice.specs.DoorCounts.{CountsDoors, door_in}
 use Rattle.unref_notice.proofs.DoorCounts.{counts_made, few_counted}
 use Rattle.unref_notice.proofs.notices.Notices.make.Goals as goal

@@ -1,5 +1,0 @@
-pub mod Ends
-pub mod Closed
-pub mod Changed
-pub mod Ended
-pub mod Told

@@ -1,4 +1,0 @@
-pub mod Ended
-pub mod Value
-pub mod Told
-pub mod Words

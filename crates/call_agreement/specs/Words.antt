@@ -1,3 +1,0 @@
--- The words of this crate's specs, from one place, for the crates above.
-pub use Rattle.call_agreement.specs.Backed.{AreBacked, IsBacked, IsServedAt, is_given_item}
-pub use Rattle.kernel_records.specs.Words.{is_calling}

@@ -1,5 +1,0 @@
-use Rattle.channel_invariant.proofs.Acts.{step_fits}
-use Rattle.channel_invariant.proofs.laws.every_event.Goals as goal
-
-pub returns : goal.returns
-returns c = λ m t q h may. step_fits m t q h may

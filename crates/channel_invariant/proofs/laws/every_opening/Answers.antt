@@ -1,5 +1,0 @@
-use Rattle.channel_invariant.proofs.Runs.{opening_fits}
-use Rattle.channel_invariant.proofs.laws.every_opening.Goals as goal
-
-pub returns : goal.returns
-returns c = λ m o. opening_fits m o

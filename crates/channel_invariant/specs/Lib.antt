@@ -1,3 +1,0 @@
-pub mod Associations
-pub mod Timers
-pub mod Channels

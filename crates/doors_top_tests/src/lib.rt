@@ -1,5 +1,0 @@
-//! Tests of the commands.
-#![tactic(auto)]
-
-#[cfg(test)]
-mod tests;

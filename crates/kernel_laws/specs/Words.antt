@@ -1,2 +1,0 @@
--- The words of this crate's specs, from one place, for the crates above.
-unfoldable pub use Rattle.kernel_laws.specs.Laws.{Laws}

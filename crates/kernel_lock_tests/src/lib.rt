@@ -1,9 +1,0 @@
-//! Tests of whole runs on threads.
-#![tactic(auto)]
-
-#[cfg(test)]
-mod runs;
-#[cfg(test)]
-mod tasks;
-#[cfg(test)]
-mod tests;

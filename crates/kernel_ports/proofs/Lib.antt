@@ -1,0 +1,13 @@
+pub mod Earliest
+pub mod Leads
+pub mod Firing
+pub mod FireRooms
+pub mod Others
+pub mod Ended
+pub mod Few
+pub mod Idle
+pub mod Queues
+pub mod Rooms
+pub mod Timers
+pub mod Told
+pub mod Withdrawn

@@ -1,5 +1,0 @@
-//! Tests of generated loads.
-#![tactic(auto)]
-
-#[cfg(test)]
-mod tests;

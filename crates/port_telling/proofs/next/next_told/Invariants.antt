@@ -1,6 +1,0 @@
-use Rattle.std.proofs.Common.{take}
-use Rattle.port_telling.proofs.Leads.{Leads}
-use Rattle.port_telling.proofs.next.next_told.Given as goal
-
-abbrev pub invariant-loop-c : goal.invariant-loop-c
-invariant-loop-c l = Leads l.assocs.list.associations (take l.c-index l.changed) l.next

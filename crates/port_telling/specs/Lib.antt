@@ -1,4 +1,0 @@
-pub mod Ready
-pub mod Firing
-pub mod Named
-pub mod Words

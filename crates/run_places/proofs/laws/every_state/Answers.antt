@@ -1,5 +1,0 @@
-use Rattle.run_places.proofs.Runs.{invariant_at}
-use Rattle.run_places.proofs.laws.every_state.Goals as goal
-
-pub returns : goal.returns
-returns c = invariant_at

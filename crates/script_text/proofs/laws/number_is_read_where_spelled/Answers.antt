@@ -1,5 +1,0 @@
-use Rattle.script_text.proofs.DecimalWords.{number_spelled, number_spells}
-use Rattle.script_text.proofs.laws.number_is_read_where_spelled.Goals as goal
-
-pub returns : goal.returns
-returns c = record { again = number_spelled; found = number_spells }

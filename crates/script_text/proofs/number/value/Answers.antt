@@ -1,6 +1,0 @@
-use Rattle.std.proofs.Common.{arith}
-use Rattle.script_text.proofs.Digits.{stays_great}
-use Rattle.script_text.proofs.number.value.Goals as goal
-
-pub returns-in_err-value : goal.returns-in_err-value
-returns-in_err-value c = grind (arith, stays_great)

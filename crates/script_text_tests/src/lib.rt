@@ -1,7 +1,0 @@
-//! Tests of `script_text`.
-#![tactic(auto)]
-
-#[cfg(test)]
-mod reading;
-#[cfg(test)]
-mod writing;

@@ -1,6 +1,0 @@
-use Rattle.std.proofs.Common.{sym, ◌∙◌}
-use Rattle.shuttle_tokens.proofs.Chain.{told_lead}
-use Rattle.shuttle_tokens.proofs.Shuttles.lead_of.Goals as goal
-
-pub returns-then-at-eq0 : goal.returns-then-at-eq0
-returns-then-at-eq0 c = rw (← c.self.view_is) (c.other.ensures ∙ told_lead c.self.invariant c.args.t (sym c.at.ensures ∙ c.if-at-eq0.true))

@@ -1,5 +1,0 @@
-//! Tests of whole runs of a script.
-#![tactic(auto)]
-
-#[cfg(test)]
-mod tests;

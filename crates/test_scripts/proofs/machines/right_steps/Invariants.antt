@@ -1,0 +1,5 @@
+use Rattle.thread_machine.specs.Words.{IsMachine}
+use Rattle.test_scripts.proofs.machines.right_steps.Given as goal
+
+abbrev pub invariant-loop-i : goal.invariant-loop-i
+invariant-loop-i l = IsMachine l.script l.machine

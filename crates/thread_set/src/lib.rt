@@ -1,4 +1,0 @@
-//! Sets of threads, each in one word.
-#![tactic(auto)]
-
-pub mod set;

@@ -1,5 +1,0 @@
-//! Tests of timers.
-#![tactic(auto)]
-
-#[cfg(test)]
-mod timers;

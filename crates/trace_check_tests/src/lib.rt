@@ -1,5 +1,0 @@
-//! Tests of verdicts on traces.
-#![tactic(auto)]
-
-#[cfg(test)]
-mod tests;

@@ -1,5 +1,0 @@
-//! Tests of tasks.
-#![tactic(auto)]
-
-#[cfg(test)]
-mod tests;

@@ -1,2 +1,0 @@
-//! The written kernel: its definitions, in `specs/`, and lemmas about them, in `proofs/`. There is no code.
-#![tactic(auto)]
