@@ -89,12 +89,22 @@ bool is_below(pid_t pid)
 	return false;
 }
 
+static bool is_connected(pid_t pid)
+{
+	for (const struct client *client = doord.clients; client; client = client->next)
+		if (client->pid == pid)
+			return true;
+	return false;
+}
+
 /* libdoor waits for doord with a time, and is alone in waiting so for a word that is shared. */
-static bool waits_for_doord(const char *call)
+static bool waits_for_doord(pid_t process, const char *call)
 {
 	long number;
 	unsigned long word[4] = { 0 };
 
+	if (!is_connected(process))
+		return false;
 	if (sscanf(call, "%ld %lx %lx %lx %lx", &number, &word[0], &word[1], &word[2], &word[3]) < 5)
 		return false;
 	return number == SYS_futex && word[1] == FUTEX_WAIT && word[3] != 0;
@@ -196,7 +206,7 @@ static void see_sleeper(struct look *look, struct seen *seen)
 	snprintf(name, sizeof name, "/proc/%d/task/%d/syscall", (int)seen->process, (int)seen->thread);
 	if (!read_file(name, text, sizeof text)) {
 		look->is_outside = look->is_movable = true;
-	} else if (waits_for_doord(text)) {
+	} else if (waits_for_doord(seen->process, text)) {
 		seen->switches = 0;
 	} else if (!sleeps_for_others(text)) {
 		look->is_outside = true;

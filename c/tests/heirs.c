@@ -3,14 +3,15 @@
  *
  * client, server: no child is in store for them; a client of w, and one with a door of its own
  * among:          a client of w that forks while its other threads call; three children are in store
+ * pty:            a client of w that forks by forkpty(3), which no library stands before
  * before, double: a daemon by daemon(3), by a double fork, which then makes the door at PATH
  * after:          makes the door at PATH, becomes a daemon, and makes it anew, since the first was its parent's
  */
 #define _GNU_SOURCE 1
 #include "test.h"
 
+#include <dlfcn.h>
 #include <spawn.h>
-#include <sys/syscall.h>
 
 extern char **environ;
 
@@ -147,6 +148,24 @@ static void fork_among(void)
 	check(others == 0);
 }
 
+/* The function is looked up, since it is in a library of its own on some systems. Without one there is nothing to test. */
+static void fork_at_terminal(void)
+{
+	pid_t (*function)(int *, char *, const void *, const void *) = NULL;
+	void *found = dlsym(RTLD_DEFAULT, "forkpty");
+	int i, terminal, door = open("w", O_RDWR);
+
+	memcpy(&function, &found, sizeof(found));
+	for (i = 0; i < 2 && function != NULL; i++) {
+		pid_t child = function(&terminal, NULL, NULL, NULL);
+
+		if (child == 0)
+			_exit(ask(door, "echo x", answer, sizeof(answer)) == (i == 0 ? 0 : EBADF) ? 4 : 9);
+		check(child > 0 && end_of(child) == 4);
+	}
+	check(ask(door, "echo x", answer, sizeof(answer)) == 0);
+}
+
 static void fork_twice(void)
 {
 	for (int i = 0; i < 2; i++) {
@@ -189,6 +208,8 @@ int main(int argc, char **argv)
 		be_client();
 	else if (argc == 2 && strcmp(argv[1], "among") == 0)
 		fork_among();
+	else if (argc == 2 && strcmp(argv[1], "pty") == 0)
+		fork_at_terminal();
 	else if (argc == 2)
 		be_server();
 	else if (argc == 3)

@@ -27,6 +27,12 @@ case_forks_among_calls() {
     says_like 'libdoor: EBADF: .*-b PROGRAM=' 2
 }
 
+# The first child has its parent's doors, and the second, for which none is in store, says so at its terminal.
+case_forks_past_the_library() {
+    run 'up serve w; doorwait w; heirs pty' -b 'heirs=2,0,1'
+    gives 'pty: done'
+}
+
 # A shell, and what it pipes into, with a door at one of its descriptors.
 case_shell_with_a_door() {
     run 'up serve w; doorwait w; sh -c "exec 3<>w; echo a | cat; x=\$(echo b); echo \$x; (echo c); cat </dev/null & wait"'
