@@ -83,19 +83,26 @@ static void open_socket(void)
 
 static bool has_library(const char *folder)
 {
-	char file[sizeof doord.library + 16];
+	char file[sizeof doord.library + sizeof "/" DOORD_LIBRARY];
 
-	snprintf(file, sizeof file, "%s/libdoor.so", folder);
+	snprintf(file, sizeof file, "%s/" DOORD_LIBRARY, folder);
 	return access(file, R_OK) == 0;
 }
 
-/* libdoor.so lies beside doord, or a folder up: a doord that is built to be tested stands below the other. */
+/*
+ * The library lies beside doord, or a folder up, as a doord that is built to be tested stands below the other; or in lib beside doord's
+ * folder, where both are installed.
+ */
 static void find_library(void)
 {
-	ssize_t n = readlink("/proc/self/exe", doord.library, sizeof doord.library - 1);
+	static const char installed[] = "/lib";
+	const size_t room = sizeof doord.library - sizeof installed;
+	ssize_t n = readlink("/proc/self/exe", doord.library, room);
 
 	if (n <= 0)
 		fail("/proc/self/exe: %s", strerror(errno));
+	if ((size_t)n == room)
+		fail("/proc/self/exe: %s", strerror(ENAMETOOLONG));
 	doord.library[n] = 0;
 	for (int up = 0; up < 2; up++) {
 		char *last = strrchr(doord.library, '/');
@@ -104,7 +111,9 @@ static void find_library(void)
 		if (last && has_library(doord.library))
 			return;
 	}
-	fail("there is no libdoor.so beside doord");
+	strcat(doord.library, installed);
+	if (!has_library(doord.library))
+		fail("there is no " DOORD_LIBRARY " beside doord");
 }
 
 /* one round of the loop: what came by a control socket is taken before what speaks of it, and ends come last */

@@ -11,6 +11,9 @@
 #include <stdio.h>
 #include <sys/types.h>
 
+/* the library as programs are bound to it: its soname */
+#define DOORD_LIBRARY "libdoor.so.1"
+
 enum {
 	DOORD_PLACES = 64,  /* processes of the kernel */
 	DOORD_MEMBERS = 64, /* threads of the kernel */
@@ -218,7 +221,7 @@ struct doord {
 	struct wire_table *table; /* for programs to read; nothing in it is believed here */
 	char folder[64]; /* of the socket and the table, where doord made it; else empty */
 	char socket_path[108], table_path[160];
-	char library[4096]; /* the folder of libdoor.so */
+	char library[4096]; /* the folder of DOORD_LIBRARY */
 };
 
 extern struct doord doord;

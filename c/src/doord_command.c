@@ -37,9 +37,9 @@ static bool put_before(const char *name, const char *first)
 
 static bool prepare_environment(void)
 {
-	char library[sizeof doord.library + 16];
+	char library[sizeof doord.library + sizeof "/" DOORD_LIBRARY];
 
-	snprintf(library, sizeof library, "%s/libdoor.so", doord.library);
+	snprintf(library, sizeof library, "%s/" DOORD_LIBRARY, doord.library);
 	bool done = setenv(WIRE_SOCKET, doord.socket_path, 1) == 0 && setenv(WIRE_TABLE, doord.table_path, 1) == 0
 		&& put_before("LD_LIBRARY_PATH", doord.library);
 	return done && (doord.options.no_preload || put_before("LD_PRELOAD", library));

@@ -302,7 +302,7 @@ case_library_path() {
     run 'echo "$LD_LIBRARY_PATH" | sed "s/^[^:]*://"'
     gives /one:/two
     unset LD_LIBRARY_PATH
-    run 'case $LD_LIBRARY_PATH in *:*) echo "$LD_LIBRARY_PATH" ;; /*) echo one ;; esac; case $LD_PRELOAD in */libdoor.so) echo preload ;; esac'
+    run 'case $LD_LIBRARY_PATH in *:*) echo "$LD_LIBRARY_PATH" ;; /*) echo one ;; esac; case $LD_PRELOAD in */libdoor.so.1) echo preload ;; esac'
     gives one preload
     run 'echo "<$LD_PRELOAD>"; up server sq; doorwait sq; client sq 9' --no-preload
     gives '<>' 'result: 81'
