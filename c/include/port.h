@@ -1,6 +1,5 @@
 /*
  * port.h: event ports, as port_create(3C), port_associate(3C), port_get(3C), port_send(3C) and port_alert(3C) have them.
- * The calls are not built: each answers ENOTSUP, and the first of them says so on the error stream.
  */
 #ifndef _PORT_H
 #define _PORT_H

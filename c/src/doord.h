@@ -41,6 +41,7 @@ enum {
 struct object {
 	unsigned holders;
 	bool is_door;
+	bool is_port;        /* that the program made; one that stands for a file is none */
 	bool is_revoked;     /* of a door */
 	int file;            /* of an ordinary file, which a port of the kernel stands for: the file; else -1 */
 	int place;           /* of a door: its process, and what its program said of it */
@@ -74,6 +75,7 @@ struct member {
 	bool in_service;       /* it runs an invocation */
 	bool waits_to_serve;
 	bool awaits;           /* it waits for a path */
+	bool gets;             /* it waits at a port */
 	bool is_ready;         /* it stands among those that may go on */
 	uint32_t serves;       /* the call of its invocation; 0 of a notice, or where there is none */
 	uint32_t invocation;   /* the number of the request that was answered by it */
@@ -276,6 +278,7 @@ int find_child(int parent);
 int lend_member(struct slot *slot, bool to_serve);
 void store_member(int member);
 void member_woken(int member);
+bool is_waiting(const struct member *member);
 void name_member(int member, char *name);
 void place_full(int place, const char *what);
 void see_that_served(int place);
@@ -318,6 +321,14 @@ void set_ready(int member);
 void settle(void);
 void hold_back(struct slot *slot);
 void let_go(struct slot *slot);
+
+/* doord_ports.c: event ports */
+void ask_port_create(struct slot *slot, int member);
+void ask_send(struct slot *slot, int member);
+void ask_send_many(struct slot *slot, int member);
+void ask_get(struct slot *slot, int member);
+void tell_events(struct slot *slot);
+bool is_any_timed(void);
 
 /* doord_long.c: messages of more bytes than the kernel takes */
 void tell_long(void);

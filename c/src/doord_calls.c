@@ -378,13 +378,14 @@ static void receive_items(int number, struct wire_reply *reply, struct passage *
 		struct object *object = passage->object[i];
 		struct wire_passed *passed = reply ? &reply->item[i] : NULL;
 		set_row(member->place, fd[i], object);
-		if (passed && object->is_door) {
+		bool is_local = object->is_door && object->place == member->place;
+		if (passed && (object->is_door || object->is_port)) {
 			passed->fd = (uint32_t)fd[i];
-			passed->attributes = object->attributes | (object->place == member->place ? KERNEL_ATTRIBUTE_LOCAL : 0);
+			passed->attributes = object->attributes | (is_local ? KERNEL_ATTRIBUTE_LOCAL : 0);
 			passed->id = object->number;
 			expect_stand_in(member->slot->client, fd[i]);
 		}
-		if (object->is_door)
+		if (object->is_door || object->is_port)
 			continue;
 		if (passed && object->file >= 0) {
 			passed->fd = WIRE_NO_FD;
@@ -450,7 +451,7 @@ static void collected(int number)
 	forget_call(member);
 }
 
-/* A wait that failed: of a call, or of a server thread whose private door is invalid. */
+/* A wait that failed: of a call, at a port, or of a server thread whose private door is invalid. */
 static void failed(int number)
 {
 	struct member *member = &doord.member[number];
@@ -463,6 +464,7 @@ static void failed(int number)
 		drop(member->bound);
 		member->bound = NULL;
 	}
+	member->gets = false;
 	if (member->slot)
 		reply_error(member->slot, error);
 }
@@ -500,6 +502,12 @@ void go_on(int number)
 	case KERNEL_ANSWER_FAILURE:
 		failed(number);
 		break;
+	case KERNEL_ANSWER_EVENT:
+	case KERNEL_ANSWER_EVENTS:
+		member->gets = false;
+		if (member->slot)
+			tell_events(member->slot);
+		break;
 	default:
 		member->awaits = false;
 		if (member->slot)
@@ -514,15 +522,14 @@ void settle(void)
 		while (ready_count > 0 && !doord.is_full) {
 			int number = next_ready();
 			struct member *member = &doord.member[number];
-			bool waits = member->calls || member->waits_to_serve || member->awaits;
-			if (waits && member->slot && member->slot->is_busy && can_go_on(number))
+			if (is_waiting(member) && member->slot && member->slot->is_busy && can_go_on(number))
 				go_on(number);
 		}
 	} while (!doord.is_full && let_one_go());
 	ask_left();
 }
 
-/* A signal's handler is to run in a thread that waits in a call: init interrupts it. */
+/* A signal's handler is to run in a thread that waits in a call or at a port, or its time is over: init interrupts it. */
 void interrupt_slot(struct slot *slot)
 {
 	struct member *member = &doord.member[slot->member];
@@ -531,7 +538,7 @@ void interrupt_slot(struct slot *slot)
 	if (slot->is_held) {
 		let_go(slot);
 		reply_error(slot, EINTR);
-	} else if (slot->member && member->calls) {
+	} else if (slot->member && (member->calls || member->gets)) {
 		enter_kernel(1, &interrupt);
 		set_ready(slot->member);
 		settle();

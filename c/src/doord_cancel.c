@@ -32,7 +32,7 @@ void forget_left(struct member *server)
 /* A thread can ask only as long as it runs: one that waits in a call of its own does so afterwards. */
 static bool runs(const struct member *member)
 {
-	return !member->calls && !member->waits_to_serve && !member->awaits;
+	return !is_waiting(member);
 }
 
 void ask_left(void)

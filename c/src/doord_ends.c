@@ -32,7 +32,7 @@ static void kill_place(int number)
 		forget_call(member);
 		drop(member->bound);
 		member->bound = NULL;
-		member->waits_to_serve = member->in_service = member->awaits = false;
+		member->waits_to_serve = member->in_service = member->awaits = member->gets = false;
 		forget_left(member);
 		member->life = MEMBER_SPENT;
 	}
@@ -41,17 +41,17 @@ static void kill_place(int number)
 	tell_validity();
 }
 
-/* The call that a thread waits in is interrupted and collected, by nobody. */
-static bool end_call(int number)
+/* A wait in a call, or at a port, is interrupted, and its end told to nobody. */
+static bool end_waiting(int number)
 {
 	struct asked interrupt = { .op = KERNEL_OP_INTERRUPT, .a = (uint32_t)number };
 
-	if (doord.member[number].calls == 0)
+	if (!is_waiting(&doord.member[number]))
 		return true;
 	enter_kernel(1, &interrupt);
 	if (can_go_on(number))
 		go_on(number);
-	return doord.member[number].calls == 0;
+	return !is_waiting(&doord.member[number]);
 }
 
 /* All threads run, no descriptor is open, and nothing is bound: the place is as new, for another program. */
@@ -60,7 +60,7 @@ static bool empty_place(int number)
 	struct place *place = &doord.place[number];
 
 	for (int t = place->first; t <= place->last; t++)
-		if (!end_call(t))
+		if (!end_waiting(t))
 			return false;
 	for (int t = place->first; t <= place->last; t++)
 		unbind_member(t);

@@ -277,6 +277,12 @@ void store_member(int number)
 	member->life = MEMBER_FREE;
 }
 
+/* Whether it waits in the kernel, for whatever. */
+bool is_waiting(const struct member *member)
+{
+	return member->calls || member->waits_to_serve || member->awaits || member->gets;
+}
+
 /* The kernel says that this thread can go on: a spare that has started is a server thread that its program is to make. */
 void member_woken(int number)
 {

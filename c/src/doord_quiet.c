@@ -51,9 +51,10 @@ static bool is_quiet(uint64_t time)
 	own.looked = time;
 	if (!look->is_still || !has_before || !before->is_still)
 		return false;
-	if (!look->is_outside && is_same_look(look, before))
+	bool is_outside = look->is_outside || is_any_timed();
+	if (!is_outside && is_same_look(look, before))
 		return true;
-	return time - own.active >= patience() && look->is_outside;
+	return time - own.active >= patience() && is_outside;
 }
 
 /* ending what is left */

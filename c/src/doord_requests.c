@@ -86,8 +86,13 @@ void hand_over(void)
 /* simple requests */
 
 /* Those whose answer comes at once, and of which nothing else follows than what `follow` does. */
-static bool is_immediate(uint32_t op)
+static bool is_immediate(const struct wire_request *request)
 {
+	uint32_t op = request->op;
+	bool gets = op == KERNEL_OP_GET || op == KERNEL_OP_GET_MANY;
+
+	if (gets)
+		return !(request->flags & WIRE_WAITS);
 	return op != KERNEL_OP_CALL && op != KERNEL_OP_RETURN && op != KERNEL_OP_AWAIT && op != WIRE_WAIT;
 }
 
@@ -303,7 +308,7 @@ static void leave(struct slot *slot)
 		begin_reply(slot, KERNEL_ANSWER_DONE);
 		return;
 	}
-	if (member->calls || member->waits_to_serve || member->awaits) {
+	if (is_waiting(member)) {
 		reply_error(slot, EBUSY);
 		return;
 	}
@@ -370,6 +375,20 @@ static void ask_by(struct slot *slot, int member)
 	case KERNEL_OP_FORK:
 		ask_fork(slot, member);
 		break;
+	case KERNEL_OP_PORT_CREATE:
+		ask_port_create(slot, member);
+		break;
+	case KERNEL_OP_SEND:
+	case KERNEL_OP_ALERT:
+		ask_send(slot, member);
+		break;
+	case KERNEL_OP_SEND_MANY:
+		ask_send_many(slot, member);
+		break;
+	case KERNEL_OP_GET:
+	case KERNEL_OP_GET_MANY:
+		ask_get(slot, member);
+		break;
 	default:
 		if (is_simple(slot->request.op))
 			ask_simple(slot, member);
@@ -389,7 +408,7 @@ static int member_for(struct slot *slot)
 {
 	const struct wire_request *request = &slot->request;
 	int keeper = doord.place[slot->client->place].keeper;
-	bool immediate = is_immediate(request->op) && !is_of_thread(request->op);
+	bool immediate = is_immediate(request) && !is_of_thread(request->op);
 
 	if ((request->flags & WIRE_KEEPER) && immediate)
 		return keeper;
@@ -397,8 +416,7 @@ static int member_for(struct slot *slot)
 	if (number == 0)
 		return immediate ? keeper : 0;
 	const struct member *member = &doord.member[number];
-	bool waits = member->calls || member->waits_to_serve || member->awaits;
-	return waits && request->op != WIRE_WAIT && immediate ? keeper : number;
+	return is_waiting(member) && request->op != WIRE_WAIT && immediate ? keeper : number;
 }
 
 void answer_request(struct slot *slot)

@@ -93,6 +93,8 @@ void look_for_stall(uint64_t time)
 			ask_for_alarms();
 		else
 			look_later();
+	} else if (is_any_timed()) {
+		look_later();
 	} else if (are_alarms_known(&is_timed)) {
 		look_at_all(&own.second);
 		doord.is_stalled = !is_timed && is_asleep(&own.second) && is_same_look(&own.first, &own.second);
@@ -179,15 +181,10 @@ void tell_stall(void)
 		tell("stall: pid %d has a call that is held back, since as many wait as may", (int)doord.held[i]->client->pid);
 }
 
-static bool waits(const struct member *member)
-{
-	return member->calls || member->waits_to_serve || member->awaits;
-}
-
 static bool has_waiting_thread(const struct place *place)
 {
 	for (int t = place->first; t <= place->last; t++)
-		if (waits(&doord.member[t]))
+		if (is_waiting(&doord.member[t]))
 			return true;
 	return false;
 }

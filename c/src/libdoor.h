@@ -182,6 +182,8 @@ struct ask {
 	struct sent *sent;     /* of a call or return: what is released with it */
 	struct kept *kept;     /* of a call: where its answer is kept while a handler runs */
 	volatile bool is_kept;
+	const struct timespec *end; /* when the wait ends, by CLOCK_MONOTONIC; NULL: never by itself */
+	bool is_late;          /* that has passed, and doord was told so */
 	uint32_t a, b;         /* of a simple request's answer */
 	uint64_t c, d, e;
 };
@@ -234,10 +236,13 @@ void forget_argument(void);
 
 /* libdoor_descriptors.c: descriptors of the program that stand for those of the kernel */
 
+/* Of the flags of a stand-in, beside those of open(2): it stands for a port. */
+enum { STAND_IN_PORT = 1 << 30 };
+
 /* What a descriptor is: the kernel's number, WIRE_NO_FD for none; the pipe that stands for it; and what fcntl(2) tells of it. */
 struct stand_in {
 	uint32_t row, pipe;
-	int flags; /* the access mode, O_CLOEXEC, O_NONBLOCK and O_APPEND */
+	int flags; /* the access mode, O_CLOEXEC, O_NONBLOCK, O_APPEND and STAND_IN_PORT */
 	bool is_dead; /* it stood for one in the parent of this process, which has none of them */
 };
 

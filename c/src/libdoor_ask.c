@@ -62,6 +62,8 @@ static void prepare(struct ask *ask)
 	ask->sent = NULL;
 	ask->kept = NULL;
 	ask->is_kept = false;
+	ask->end = NULL;
+	ask->is_late = false;
 }
 
 /* Begins a request, whose operands the caller then puts in. */
@@ -134,17 +136,49 @@ static void tell_of_alarm(struct wire_slot *slot)
 	atomic_store(&slot->looked, slot->request.number);
 }
 
-/* Sleeps a while at most. */
-static void sleep_on(struct wire_slot *slot)
+/* The time of the wait is over: it is ended in the kernel, unless what it waits for comes before. */
+static void end_late(struct ask *ask)
 {
-	static const struct timespec second = { .tv_sec = 1 };
+	ask->is_late = true;
+	atomic_store(&ask->slot->interrupted, ask->number);
+	ring(ask->index);
+}
+
+/* How long to sleep: a second at most, and no longer than the wait may last. */
+static struct timespec time_to_sleep(struct ask *ask)
+{
+	const struct timespec second = { .tv_sec = 1 }, none = { 0 };
+	struct timespec left;
+
+	if (!ask->end || ask->is_late)
+		return second;
+	(void)clock_gettime(CLOCK_MONOTONIC, &left);
+	left.tv_sec = ask->end->tv_sec - left.tv_sec;
+	left.tv_nsec = ask->end->tv_nsec - left.tv_nsec;
+	if (left.tv_nsec < 0) {
+		left.tv_sec--;
+		left.tv_nsec += 1000000000;
+	}
+	return left.tv_sec < 0 ? none : left.tv_sec > 0 ? second : left;
+}
+
+/* Sleeps a while at most. */
+static void sleep_on(struct ask *ask)
+{
+	struct wire_slot *slot = ask->slot;
+	const struct timespec most = time_to_sleep(ask);
 	uint32_t seen = WIRE_ASKED;
+
+	if (most.tv_sec == 0 && most.tv_nsec == 0) {
+		end_late(ask);
+		return;
+	}
 
 	/* its procedures have been let in before, and nobody else takes them now */
 	if (thread.at == AT_WAIT && !is_program_there())
 		let_signals_in();
 	atomic_compare_exchange_strong(&slot->turn, &seen, WIRE_ASLEEP);
-	if (seen != WIRE_TOLD && futex_wait(&slot->turn, WIRE_ASLEEP, &second) == ETIMEDOUT) {
+	if (seen != WIRE_TOLD && futex_wait(&slot->turn, WIRE_ASLEEP, &most) == ETIMEDOUT && most.tv_sec > 0) {
 		look_for_broker();
 		tell_of_alarm(slot);
 	}
@@ -154,7 +188,7 @@ static void sleep_on(struct wire_slot *slot)
 static void sleep_until_told(struct ask *ask)
 {
 	while (!ask->is_kept && is_of_this_process(ask) && atomic_load_explicit(&ask->slot->turn, memory_order_acquire) != WIRE_TOLD)
-		sleep_on(ask->slot);
+		sleep_on(ask);
 }
 
 static void see_that_it_fits(const struct ask *ask)
@@ -252,7 +286,7 @@ static void leave_borrowed(struct ask *ask)
 {
 	uint32_t op = ask->request->op;
 
-	if (op == KERNEL_OP_CALL || op == KERNEL_OP_AWAIT || op == WIRE_WAIT) {
+	if (op == KERNEL_OP_CALL || op == KERNEL_OP_AWAIT || op == WIRE_WAIT || op == KERNEL_OP_GET || op == KERNEL_OP_GET_MANY) {
 		put_request(ask, WIRE_LEAVE);
 		post(ask);
 		sleep_until_told(ask);

@@ -21,6 +21,7 @@ enum {
 	ENTRY_MODE = 17,        /* from this bit on O_RDONLY, O_WRONLY or O_RDWR */
 	ENTRY_NO_WAIT = 1 << 19, /* O_NONBLOCK */
 	ENTRY_APPENDS = 1 << 20, /* O_APPEND */
+	ENTRY_PORT = 1 << 21,   /* it stands for a port */
 	ENTRY_PIPE = 32,        /* and from this one its number, by which a descriptor that was closed behind libdoor's back is known */
 };
 
@@ -45,7 +46,8 @@ static struct stand_in read_entry(uint64_t entry)
 	if (it.is_dead)
 		it.row = WIRE_NO_FD;
 	it.flags = (int)(entry >> ENTRY_MODE & O_ACCMODE) | (entry & ENTRY_CLOSES ? O_CLOEXEC : 0)
-		| (entry & ENTRY_NO_WAIT ? O_NONBLOCK : 0) | (entry & ENTRY_APPENDS ? O_APPEND : 0);
+		| (entry & ENTRY_NO_WAIT ? O_NONBLOCK : 0) | (entry & ENTRY_APPENDS ? O_APPEND : 0)
+		| (entry & ENTRY_PORT ? STAND_IN_PORT : 0);
 	return it;
 }
 
@@ -60,7 +62,7 @@ static uint64_t entry_for(uint32_t pipe, uint32_t row, int flags)
 {
 	uint64_t mode = (uint64_t)(flags & O_ACCMODE) << ENTRY_MODE;
 
-	return (uint64_t)pipe << ENTRY_PIPE | mode | bits_of(flags) | (row + 1);
+	return (uint64_t)pipe << ENTRY_PIPE | mode | bits_of(flags) | (flags & STAND_IN_PORT ? ENTRY_PORT : 0) | (row + 1);
 }
 
 /* By the bare system call, since the library's fstat(3) tells of a door. */

@@ -164,7 +164,8 @@ int place_came(const struct came *came, door_desc_t *desc)
 
 	for (unsigned i = 0; i < came->count; i++) {
 		const struct wire_passed *passed = &came->passed[i];
-		int fd = passed->fd == WIRE_NO_FD ? came->file[files++] : new_stand_in(passed->fd, O_RDWR);
+		int fd = passed->fd == WIRE_NO_FD ? came->file[files++] 
+			: new_stand_in(passed->fd, O_RDWR | (passed->id == 0 ? STAND_IN_PORT : 0));
 		if (fd < 0) {
 			drop_came(came, desc, i);
 			errno = EMFILE;

@@ -1,5 +1,5 @@
 /*
- * libdoor_stat.c: stat(2) and its kin. A door is told of by the type S_IFDOOR of a descriptor that stands for one, and of a path to which
+ * libdoor_stat.c: stat(2) and its kin. A door is told of by the type S_IFDOOR, and a port by S_IFPORT, of a descriptor that stands for one, and of a path to which
  * one is attached; what else is told of such a path is the file's. All others are the system's.
  */
 #include "libdoor.h"
@@ -17,10 +17,18 @@ static void tell_door(struct stat *found, mode_t rights)
 	found->st_blocks = 0;
 }
 
+/* Of what stands for a door or a port. */
+static mode_t type_of(int fd)
+{
+	return stand_in_at(fd).flags & STAND_IN_PORT ? S_IFPORT : S_IFDOOR;
+}
+
 static int tell_descriptor(int fd, int result, struct stat *found)
 {
-	if (result == 0 && is_stand_in_found(fd, found))
-		tell_door(found, DOOR_RIGHTS);
+	if (result != 0 || !is_stand_in_found(fd, found))
+		return result;
+	tell_door(found, DOOR_RIGHTS);
+	found->st_mode = type_of(fd) | DOOR_RIGHTS;
 	return result;
 }
 
@@ -159,7 +167,10 @@ EXPORT int statx(int directory, const char *path, int flags, unsigned mask, stru
 		is_door = are_any_attached() && attached_to(&file);
 	if (!is_door)
 		return result;
-	found->stx_mode = (uint16_t)(S_IFDOOR | (is_empty(path, flags) ? (mode_t)DOOR_RIGHTS : file.st_mode & ~(mode_t)S_IFMT));
+	if (is_empty(path, flags))
+		found->stx_mode = (uint16_t)(type_of(directory) | DOOR_RIGHTS);
+	else
+		found->stx_mode = (uint16_t)(S_IFDOOR | (file.st_mode & ~(mode_t)S_IFMT));
 	found->stx_nlink = 1;
 	found->stx_size = 0;
 	found->stx_blocks = 0;

@@ -51,6 +51,8 @@ enum {
 /* flags of a request */
 enum {
 	WIRE_KEEPER = 1, /* by the process's keeper, whatever the thread waits for */
+	WIRE_WAITS = 8,  /* of a get: until there are events */
+	WIRE_TIMED = 16, /* and the program ends the wait after a time, by `interrupted` */
 };
 
 /*
@@ -71,6 +73,10 @@ enum { WIRE_BESIDE = 4 };
  *   detach, open, await   c device, d inode of the file
  *   fork       the child may be made; a 1: not without the doors that there are; the reply's a is its token, 0 where it has no rows and
  *              is nobody yet
+ *   port create
+ *   send       a port, b events, c user value;  alert  also item 0: the kernel's number of what is done
+ *   send many  b events, c user value, items: the ports
+ *   get, get many  a port, b the most events, c the least; data of the reply: as many struct wire_event as there are
  * Where a is a descriptor, d is the number of the pipe that stands for it: another thread may have closed it meanwhile, and the kernel's
  * number may be another one's. Where it does not fit, a is no descriptor; 0 fits always.
  * An item is a descriptor of the kernel with WIRE_RELEASE where it is released, and the pipe's number from the bit WIRE_PIPE on; or WIRE_FILE
@@ -99,7 +105,13 @@ struct wire_request {
 struct wire_passed {
 	uint32_t fd;         /* the kernel's; WIRE_NO_FD for a file, which comes by the control socket, in order */
 	uint32_t attributes; /* of a door, as door_create(3C) has them, with DOOR_LOCAL where it is the receiver's; else 0 */
-	uint64_t id;         /* of a door: its number; else 0 */
+	uint64_t id;         /* of a door: its number, from 1; of a port and a file 0 */
+};
+
+/* a port's event, by the kernel's numbers */
+struct wire_event {
+	uint32_t source, events;
+	uint64_t object, user;
 };
 
 /* flags of a reply */
@@ -117,7 +129,7 @@ struct wire_reply {
 	uint32_t data_size, passed, files;
 	/*
 	 * by kind: new descriptor a; param c; info a the target's pid (0 none), b attributes, c procedure, d cookie, e number;
-	 * client a pid, b euid, c ruid, d egid, e rgid; child a token; cancel a 0 or 1; entered and notice b number of the door in this process
+	 * client a pid, b euid, c ruid, d egid, e rgid; child a token; available a how many; cancel a 0 or 1; entered and notice b number of the door in this process
 	 */
 	uint32_t a, b;
 	uint64_t c, d, e;

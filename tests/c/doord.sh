@@ -226,12 +226,6 @@ case_folders() {
     [ -z "$(ls -A "$deep")" ] || wrong "the socket's folder" "nothing of it is left" "$(ls -A "$deep")"
 }
 
-case_ports() {
-    run ports
-    gives 'done'
-    says 'libdoor: event ports are not built'
-}
-
 case_programs_without_doors() {
     run 'printf "b\na\n" >f; sort f | cat - f; dd if=/dev/zero bs=1000 count=5 2>g | wc -c; (cd / && ls >g) 2>/dev/null; seq 1000 | tail -n 1; find . -name f'
     gives a b b a 5000 1000 ./f
