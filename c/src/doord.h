@@ -42,6 +42,8 @@ struct object {
 	unsigned holders;
 	bool is_door;
 	bool is_port;        /* that the program made; one that stands for a file is none */
+	bool is_pipe;        /* an end of a pipe of the kernel, which a source has */
+	unsigned sources;    /* of a port: as many of its holders are sources */
 	bool is_revoked;     /* of a door */
 	int file;            /* of an ordinary file, which a port of the kernel stands for: the file; else -1 */
 	int place;           /* of a door: its process, and what its program said of it */
@@ -87,6 +89,20 @@ struct member {
 	struct passage sent, results;
 };
 
+/*
+ * What a program has associated with a port, or had: a pipe of the kernel stands for its descriptor, and the bytes that
+ * are in it say that this is ready.
+ */
+struct source {
+	bool is_associated;      /* and its event was not taken */
+	bool is_ready;           /* the pipe holds a byte */
+	uint32_t fd, bits;       /* the program's, WIRE_NO_FD for none; what poll(2) said as it became ready */
+	uint64_t serial;         /* counts associations: what is said of an earlier one is too late */
+	uint32_t read, write;    /* rows of the pipe's ends: */
+	struct object *reader, *writer; /* what they are, NULL where there is no pipe */
+	struct object *port;
+};
+
 /* A process of the kernel: a place for programs, one after the other. */
 struct place {
 	char program[WIRE_NAME]; /* the shape's: the one program that may have it, or * */
@@ -112,6 +128,7 @@ struct place {
 	 */
 	bool is_renewing;
 	uint32_t inherited[DOORD_ROWS];
+	struct source source[WIRE_SOURCES];
 };
 
 /* Files that came by a control socket, for a request that is still to come. */
@@ -286,7 +303,7 @@ void see_places_left(void);
 void no_place(const char *program);
 
 /* doord_limits.c: limits that are said where a program meets them */
-enum limit { LIMIT_ROWS, LIMIT_QUEUE, LIMIT_PROCEDURES, LIMIT_PATHS };
+enum limit { LIMIT_ROWS, LIMIT_QUEUE, LIMIT_PROCEDURES, LIMIT_PATHS, LIMIT_SOURCES };
 
 void tell_limit(int place, enum limit limit);
 bool is_news(const char *program);
@@ -329,6 +346,15 @@ void ask_send_many(struct slot *slot, int member);
 void ask_get(struct slot *slot, int member);
 void tell_events(struct slot *slot);
 bool is_any_timed(void);
+
+/* doord_sources.c: descriptors of programs that are associated with ports */
+void ask_associate(struct slot *slot, int member);
+void ask_dissociate(struct slot *slot, int member);
+void ask_ready(struct slot *slot);
+void ask_forget(struct slot *slot);
+void tell_source(int place, struct wire_event *event);
+void forget_sources(int place);
+void close_pipes(int child);
 
 /* doord_long.c: messages of more bytes than the kernel takes */
 void tell_long(void);

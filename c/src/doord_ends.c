@@ -79,6 +79,7 @@ void end_place(int number)
 	struct place *place = &doord.place[number];
 
 	place->client = NULL;
+	forget_sources(number);
 	place->token = 0;
 	place->orphaned = 0;
 	for (int t = place->first; t <= place->last; t++) {

@@ -27,6 +27,9 @@ void tell_limit(int number, enum limit limit)
 	case LIMIT_PATHS:
 		complain("%s: EMFILE: doors are attached to at most 4,096 files in the life of a kernel", place->name);
 		break;
+	case LIMIT_SOURCES:
+		complain("%s: EAGAIN: a descriptor that is associated with a port takes two of the %u that a process has for doors", place->name, doord.options.limit);
+		break;
 	}
 }
 

@@ -236,6 +236,7 @@ void adopt_child(int number, int parent)
 	for (unsigned fd = 0; fd < DOORD_ROWS; fd++)
 		if (doord.place[parent].row[fd])
 			set_row(number, fd, doord.place[parent].row[fd]);
+	close_pipes(number);
 }
 
 /* threads */

@@ -84,6 +84,8 @@ void tell_events(struct slot *slot)
 		const uint64_t *word = answer.item + i * EVENT_WORDS;
 		struct wire_event event = { (uint32_t)word[KERNEL_EVENT_SOURCE], (uint32_t)word[KERNEL_EVENT_EVENTS], word[KERNEL_EVENT_OBJECT],
 			word[KERNEL_EVENT_USER] };
+		if (event.source == KERNEL_SOURCE_DESCRIPTOR)
+			tell_source(slot->client->place, &event);
 		memcpy(reply->data + i * sizeof event, &event, sizeof event);
 	}
 	reply->data_size = count * (uint32_t)sizeof(struct wire_event);

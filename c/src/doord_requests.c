@@ -389,6 +389,12 @@ static void ask_by(struct slot *slot, int member)
 	case KERNEL_OP_GET_MANY:
 		ask_get(slot, member);
 		break;
+	case KERNEL_OP_ASSOCIATE:
+		ask_associate(slot, member);
+		break;
+	case KERNEL_OP_DISSOCIATE:
+		ask_dissociate(slot, member);
+		break;
 	default:
 		if (is_simple(slot->request.op))
 			ask_simple(slot, member);
@@ -427,6 +433,10 @@ void answer_request(struct slot *slot)
 		leave(slot);
 	} else if (op == WIRE_FORK_FAILED) {
 		fork_failed(slot);
+	} else if (op == WIRE_READY) {
+		ask_ready(slot);
+	} else if (op == WIRE_FORGET) {
+		ask_forget(slot);
 	} else {
 		int member = member_for(slot);
 		if (member == 0) {

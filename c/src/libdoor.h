@@ -78,7 +78,7 @@ void say_once(_Atomic int *said, const char *line);
 struct connection {
 	_Atomic bool is_open;
 	_Atomic uint32_t generation;    /* how many forks lie between this process and the first; threads of another one do not go on */
-	_Atomic int control, bell;      /* descriptors that are kept from the program, or -1 */
+	_Atomic int control, bell, poller; /* descriptors that are kept from the program, or -1 */
 	_Atomic pid_t pid;
 	_Atomic uint32_t most;          /* bytes of a message, where doord takes more than the kernel; else 0 */
 	struct wire_area *area;
@@ -97,11 +97,13 @@ void look_for_broker(void);
 /* Whether the connection is this process's, and not the one of a parent by vfork(2). */
 bool is_connected_here(void);
 int refuse_child(void);
+int move_high(int fd);
 
 static inline bool is_kept(int fd)
 {
 	return fd >= 0 && (fd == atomic_load_explicit(&connection.control, memory_order_relaxed)
-		|| fd == atomic_load_explicit(&connection.bell, memory_order_relaxed));
+		|| fd == atomic_load_explicit(&connection.bell, memory_order_relaxed)
+		|| fd == atomic_load_explicit(&connection.poller, memory_order_relaxed));
 }
 
 /* libdoor_alarm.c */
@@ -261,6 +263,12 @@ struct stand_in take_stand_in(int fd);
 bool forget_stand_in(int fd);
 void renew_stand_ins(bool have_rows);
 int next_stand_in(int from);
+
+/* libdoor_sources.c: descriptors that are associated with ports */
+void report_ready(void);
+void close_source(int fd);
+int next_source(int from);
+void forget_sources(void);
 
 /* libdoor_paths.c */
 

@@ -47,25 +47,33 @@ EXPORT int close(int fd)
 {
 	if (is_kept_here(fd))
 		return bad_descriptor();
+	close_source(fd);
 	if (!may_be_stand_in(fd) || !is_connected_here() || !close_in_kernel(fd))
 		return real_close(fd);
 	return (int)syscall(SYS_close, fd);
 }
 
+/* The first descriptor that is kept, from this number on, or -1. */
+static int next_kept(int from)
+{
+	const int kept[] = { atomic_load(&connection.control), atomic_load(&connection.bell), atomic_load(&connection.poller) };
+	int found = -1;
+
+	for (unsigned i = 0; i < sizeof kept / sizeof *kept; i++)
+		if (kept[i] >= from && (found < 0 || kept[i] < found))
+			found = kept[i];
+	return found;
+}
+
 /* The numbers from `first` to `last`, without those that are kept. */
 static int close_around(unsigned first, unsigned last, int flags)
 {
-	int kept[2] = { atomic_load(&connection.control), atomic_load(&connection.bell) };
-	unsigned low = (unsigned)(kept[0] < kept[1] ? kept[0] : kept[1]), high = (unsigned)(kept[0] < kept[1] ? kept[1] : kept[0]);
 	unsigned from = first;
 
-	for (unsigned i = 0; i < 2; i++) {
-		unsigned at = i == 0 ? low : high;
-		if (at < from || at > last)
-			continue;
-		if (at > from && real_close_range(from, at - 1, flags) < 0)
+	for (int at = next_kept((int)(from > INT_MAX ? INT_MAX : from)); at >= 0 && (unsigned)at <= last; at = next_kept(at + 1)) {
+		if ((unsigned)at > from && real_close_range(from, (unsigned)at - 1, flags) < 0)
 			return -1;
-		from = at + 1;
+		from = (unsigned)at + 1;
 	}
 	return from <= last && from >= first ? real_close_range(from, last, flags) : 0;
 }
@@ -81,6 +89,8 @@ EXPORT int close_range(unsigned first, unsigned last, int flags)
 	if ((flags & ~known) || first > last || !is_connected_here())
 		return real_close_range(first, last, flags);
 	int from = next_stand_in(first > INT_MAX ? INT_MAX : (int)first);
+	for (int fd = next_source(first > INT_MAX ? INT_MAX : (int)first); flags == 0 && fd >= 0 && (unsigned)fd <= last; fd = next_source(fd + 1))
+		close_source(fd);
 	for (int fd = from; fd >= 0 && (unsigned)fd <= last; fd = next_stand_in(fd + 1)) {
 		if (flags & CLOSE_RANGE_CLOEXEC)
 			set_flags(fd, O_CLOEXEC, O_CLOEXEC);
@@ -195,11 +205,15 @@ static bool are_the_systems(int from, int to)
 
 EXPORT int dup2(int from, int to)
 {
+	if (from != to && real_fcntl(from, F_GETFD, NULL) >= 0)
+		close_source(to);
 	return from == to || are_the_systems(from, to) ? real_dup2(from, to) : copy_to(from, to, 0);
 }
 
 EXPORT int dup3(int from, int to, int flags)
 {
+	if (from != to && !(flags & ~O_CLOEXEC) && real_fcntl(from, F_GETFD, NULL) >= 0)
+		close_source(to);
 	return from == to || (flags & ~O_CLOEXEC) || are_the_systems(from, to) ? real_dup3(from, to, flags) : copy_to(from, to, flags);
 }
 

@@ -19,7 +19,7 @@ enum {
 	BELOW_LIMIT = 16,     /* and so far below the most that it may have */
 };
 
-struct connection connection = { .control = -1, .bell = -1 };
+struct connection connection = { .control = -1, .bell = -1, .poller = -1 };
 
 static struct {
 	bool is_remembered;
@@ -121,7 +121,7 @@ static int receive_welcome(int control, struct wire_message *message, int *file)
 /* connecting */
 
 /* A descriptor that is kept is moved out of the program's way. */
-static int move_high(int fd)
+int move_high(int fd)
 {
 	struct rlimit limit;
 	rlim_t least = HIGHEST_KEPT;
@@ -264,13 +264,14 @@ int open_connection(void)
 void disconnect_child(void)
 {
 	const int anonymous = MAP_PRIVATE | MAP_ANONYMOUS | MAP_FIXED | MAP_NORESERVE;
-	int kept[2] = { atomic_load(&connection.control), atomic_load(&connection.bell) };
+	int kept[3] = { atomic_load(&connection.control), atomic_load(&connection.bell), atomic_load(&connection.poller) };
 
 	atomic_store(&connection.is_open, false);
 	atomic_store(&connection.control, -1);
 	atomic_store(&connection.bell, -1);
+	atomic_store(&connection.poller, -1);
 	atomic_fetch_add(&connection.generation, 1);
-	close_all(kept, 2);
+	close_all(kept, 3);
 	if (mmap(connection.area, sizeof *connection.area, PROT_READ | PROT_WRITE, anonymous, -1, 0) == MAP_FAILED)
 		_exit(LIBDOOR_NO_BROKER);
 }

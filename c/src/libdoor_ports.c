@@ -214,6 +214,8 @@ static int get_within(int port, struct get *get, const struct timespec *most)
 		return -1;
 	get->waits = !most || most->tv_sec > 0 || most->tv_nsec > 0;
 	get->end = most && get->waits ? &end : NULL;
+	if (!get->waits)
+		report_ready();
 	return ask_get(port, get);
 }
 
@@ -230,6 +232,7 @@ EXPORT int port_get(int port, port_event_t *event, struct timespec *most)
 	if (!get.is_late)
 		return -1;
 	get.waits = false;
+	report_ready();
 	return ask_get(port, &get);
 }
 
@@ -240,6 +243,7 @@ static int get_the_rest(int port, struct get *get)
 
 	get->waits = false;
 	get->least = 0;
+	report_ready();
 	if (ask_get(port, get) < 0)
 		return -1;
 	bool is_alert = get->count == 1 && get->list[0].portev_source == PORT_SOURCE_ALERT;
@@ -269,27 +273,4 @@ EXPORT int port_getn(int port, port_event_t list[], uint_t most, uint_t *count, 
 	if (result == 0 || errno == ETIME || errno == EINTR)
 		*count = get.count;
 	return result;
-}
-
-/* what is not built */
-
-static int not_built(void)
-{
-	static _Atomic int said;
-
-	say_once(&said, "libdoor: ENOTSUP: no descriptor can be associated with a port");
-	errno = ENOTSUP;
-	return -1;
-}
-
-EXPORT int port_associate(int port, int source, uintptr_t object, int events, void *user)
-{
-	(void)port, (void)source, (void)object, (void)events, (void)user;
-	return not_built();
-}
-
-EXPORT int port_dissociate(int port, int source, uintptr_t object)
-{
-	(void)port, (void)source, (void)object;
-	return not_built();
 }

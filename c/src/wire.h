@@ -24,6 +24,7 @@ enum {
 	WIRE_LONG = 1 << 24, /* the most bytes of a message that goes beside the kernel */
 	WIRE_NAME = 64,
 	WIRE_PATHS = 4096, /* the most paths that can be attached */
+	WIRE_SOURCES = 128, /* the most descriptors of a program that are associated with ports at once */
 };
 
 /* the variables of the environment by which a program finds doord: the socket's path, and that of the table of attached paths */
@@ -46,6 +47,8 @@ enum {
 	WIRE_LEAVE = 64,       /* the thread ends; its slot is free afterwards */
 	WIRE_FORK_FAILED = 65, /* a: the token of a fork whose child was not made */
 	WIRE_WAIT = 66,        /* waits for the end of the call or return that was answered by a wait (below) */
+	WIRE_READY = 67,       /* a, c: as an association was answered, b poll(2)'s bits: its descriptor is ready */
+	WIRE_FORGET = 68,      /* b: the program closes this descriptor of its own, which it has associated */
 };
 
 /* flags of a request */
@@ -76,6 +79,9 @@ enum { WIRE_BESIDE = 4 };
  *   port create
  *   send       a port, b events, c user value;  alert  also item 0: the kernel's number of what is done
  *   send many  b events, c user value, items: the ports
+ *   associate  a port, b the program's descriptor, WIRE_NO_FD where it is not open, c user value, item 0: poll(2)'s bits for which it is ready
+ *              already, 0 none, item 1: as below where it stands for one of the kernel, else WIRE_NO_FD; the reply's a and c name it
+ *   dissociate a port, b the program's descriptor, item 0: as item 1 above
  *   get, get many  a port, b the most events, c the least; data of the reply: as many struct wire_event as there are
  * Where a is a descriptor, d is the number of the pipe that stands for it: another thread may have closed it meanwhile, and the kernel's
  * number may be another one's. Where it does not fit, a is no descriptor; 0 fits always.
@@ -108,7 +114,7 @@ struct wire_passed {
 	uint64_t id;         /* of a door: its number, from 1; of a port and a file 0 */
 };
 
-/* a port's event, by the kernel's numbers */
+/* a port's event, by the kernel's numbers; of a descriptor by the program's, and the bits by which it was ready */
 struct wire_event {
 	uint32_t source, events;
 	uint64_t object, user;

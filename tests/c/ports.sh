@@ -28,3 +28,32 @@ case_ports_killed() {
     gives 'done'
     says 'libdoor: ENOTSUP: port_getn waits for at most 64 events at once'
 }
+
+# descriptors that are associated with ports
+
+case_sources() {
+    run sources
+    gives 'done'
+    says 'libdoor: ENOTSUP: PORT_SOURCE_FILE is not built; PORT_SOURCE_FD is'
+    run sources -b 'sources=2,0,1'
+    gives 'done'
+    says 'libdoor: ENOTSUP: PORT_SOURCE_FILE is not built; PORT_SOURCE_FD is'
+}
+
+case_sources_waited_for() {
+    run 'sources wait & seen "get 0 = wait"; touch go; wait'
+    gives 'done'
+}
+
+case_many_sources() {
+    run 'sources many'
+    gives 'done'
+    says 'doord: sources: EAGAIN: a descriptor that is associated with a port takes two of the 256 that a process has for doors'
+}
+
+# a loop as those of event libraries
+case_event_loop() {
+    run 'event_loop 200'
+    gives 'done'
+    [ $events -ge 2000 ] || wrong "events" "2000 at least" "$events"
+}
