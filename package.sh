@@ -38,8 +38,10 @@ done
 LC_ALL=C
 export LC_ALL
 umask 022
-mkdir -p -- "$folder" || exit 1
-folder=$(CDPATH='' cd -- "$folder" && pwd -P)
+case $folder in
+/*) ;;
+*) folder=$PWD/$folder ;;
+esac
 : "${DOORS:=}" "${DOORLAB:=}" "${LIBKERNEL:=}"
 for it in "$DOORS" "$DOORLAB" "$LIBKERNEL"; do
     case $it in
@@ -118,6 +120,7 @@ export SOURCE_DATE_EPOCH
 
 # the files
 
+mkdir -p -- "$folder"
 work=$(mktemp -d)
 trap 'rm -rf "$work"' EXIT
 trap 'exit 1' HUP INT TERM

@@ -27,6 +27,7 @@ is() {
     echo "$1:"
     printf '%s\n' "$2" | head -n 20 | sed 's/^/    wanted  /'
     printf '%s\n' "$3" | head -n 20 | sed 's/^/    came    /'
+    return 1
 }
 
 end() {
@@ -54,7 +55,7 @@ has() {
 # A clone as far as package.sh looks before it asks git: the C as it was built, and stubs of crates, all older than what is built of them.
 copy=$work/copy
 mkdir "$copy"
-cp -a c completions crates.txt package.sh "$copy"
+cp -a c completions crates.txt docs examples package.sh tools .gitignore "$copy"
 stub() {
     mkdir -p "$copy/crates/$1/src" "$copy/crates/$1/out"
     : >"$copy/crates/$1/src/lib.rt"
@@ -92,9 +93,32 @@ refused "a header is newer" "c/out/doord is older than c/src/wire.h: run make -C
 touch -d @1000000 "$copy/c/src/wire.h"
 refused "a name that is not from the top" "out/doors: a name that begins with a slash is wanted" DOORS=out/doors
 refused "no clone" "this is no clone of git: which commit it is cannot be told" GIT_CEILING_DIRECTORIES="$work"
+
+# the same copy as a clone: what stands in it for the gate's programs is taken for them, until a file differs from the commit's
+in_copy() { (cd "$copy" && env -u DOORS -u DOORLAB -u LIBKERNEL "$@") 2>&1; }
+commit() {
+    in_copy git init -q && in_copy git add -A &&
+        in_copy git -c user.name=tests -c user.email=tests@localhost -c commit.gpgsign=false commit -q -m copy
+}
+told() {
+    rm -rf "$work/copied"
+    file=$(in_copy sh package.sh -o "$work/copied" | sed -n 1p)
+    tar -xzOf "$file" --wildcards '*/doc/weldozig/PROVED' | grep -o -e ', as .ci/run left it' -e 'NOT [A-Z ]*' | sort | uniq -c | sed 's/^ *//; s/ *$//'
+}
+if is "a copy that is a clone" "" "$(commit)"; then
+    is "what the gate built is called so" "3 , as .ci/run left it" "$(told)"
+    echo >>"$copy/docs/PROVED.md"
+    is "a file was changed since" "3 , as .ci/run left it
+1 NOT THAT COMMIT ALONE" "$(told)"
+    in_copy git checkout -q docs
+    : >"$copy/c/src/more.c"
+    is "a source that git has not" "3 , as .ci/run left it
+1 NOT THAT COMMIT ALONE" "$(told)"
+    rm "$copy/c/src/more.c"
+fi
 rm "$copy/c/out/doord"
 refused "without doord" "c/out/doord was not built: run make -C c first"
-is "nothing is left of what is refused" "" "$(ls -A "$work/none")"
+is "nothing is left of what is refused" none "$(ls -A "$work/none" 2>/dev/null || echo none)"
 said=$(sh package.sh -x 2>&1)
 is "words that are wrong" "2 usage: package.sh [-o FOLDER]" "$? $said"
 
@@ -110,6 +134,10 @@ if [ ! -f "$tar" ]; then end; fi
 is "the same is made again" "$(cd "$made" && sha256sum "${tar##*/}" ${deb:+"${deb##*/}"})" \
     "$(cd "$work/again" && sha256sum "${tar##*/}" ${deb:+"${deb##*/}"})"
 
+# a server that was not compiled is waited for by doorwait without an end
+most=
+if command -v timeout >/dev/null; then most="timeout -k 10 60"; fi
+
 # with PREFIX COMMAND ..: as a user of this tree, of whose environment it has nothing of the clone.
 with() {
     prefix=$1
@@ -118,7 +146,7 @@ with() {
         unset LD_LIBRARY_PATH LD_PRELOAD DOORS DOORLAB LIBKERNEL
         PATH=$prefix/bin:$PATH PKG_CONFIG_PATH=$prefix/lib/pkgconfig
         export PATH PKG_CONFIG_PATH
-        cd "$work/run" && "$@"
+        cd "$work/run" && $most "$@"
     ) 2>&1
 }
 
@@ -153,7 +181,7 @@ compile() {
     has pkg-config "no program is compiled with what it says" || return
     for it in server client; do
         is "$name: $it is compiled" "" \
-            "$(saying "$prefix" "$cc -Wall -Wextra -Werror -o $it $doc/examples/c/$it.c \$(pkg-config --cflags --libs libdoor)")"
+            "$(saying "$prefix" "$cc -Wall -Wextra -Werror -o $it $doc/examples/c/$it.c \$(pkg-config --cflags --libs libdoor)")" || return
     done
     is "$name: server and client" "result: 81" \
         "$(saying "$prefix" "doord -o run.history -- sh -c './server door & doorwait door; ./client door 9; kill \$!'")"
