@@ -25,6 +25,9 @@ typedef unsigned int uint_t;
 #define PORT_SOURCE_MQ 6
 #define PORT_SOURCE_FILE 7
 
+/* of a struct sigevent: a timer tells a port, and sigev_value.sival_ptr is a port_notify_t. On illumos it is 4, which here is SIGEV_THREAD_ID */
+#define SIGEV_PORT 16
+
 #define PORT_ALERT_SET 1
 #define PORT_ALERT_UPDATE 2
 

@@ -163,9 +163,13 @@ static bool is_over(void)
 /* How long the loop may sleep, in milliseconds; -1 for good. */
 static int time_to_sleep(void)
 {
-	int look = time_to_look(), orphans = time_for_orphans();
+	const int time[] = { time_to_look(), time_for_orphans(), time_for_timers() };
+	int first = -1;
 
-	return look < 0 || (orphans >= 0 && orphans < look) ? orphans : look;
+	for (unsigned i = 0; i < sizeof time / sizeof *time; i++)
+		if (time[i] >= 0 && (first < 0 || time[i] < first))
+			first = time[i];
+	return first;
 }
 
 static void serve(void)
@@ -179,6 +183,7 @@ static void serve(void)
 			fail("epoll_wait: %s", strerror(errno));
 		take_events(event, count > 0 ? count : 0);
 		end_orphans();
+		run_timers();
 		hand_over();
 		free_gone();
 		if (count > 0)

@@ -103,6 +103,12 @@ struct source {
 	struct object *port;
 };
 
+/* A timer that tells a port. */
+struct timer {
+	bool is_there, is_armed;
+	uint64_t due, interval; /* when it tells next, by the kernel's clock; 0: once */
+};
+
 /* A process of the kernel: a place for programs, one after the other. */
 struct place {
 	char program[WIRE_NAME]; /* the shape's: the one program that may have it, or * */
@@ -129,6 +135,7 @@ struct place {
 	bool is_renewing;
 	uint32_t inherited[DOORD_ROWS];
 	struct source source[WIRE_SOURCES];
+	struct timer timer[WIRE_TIMERS];
 };
 
 /* Files that came by a control socket, for a request that is still to come. */
@@ -355,6 +362,13 @@ void ask_forget(struct slot *slot);
 void tell_source(int place, struct wire_event *event);
 void forget_sources(int place);
 void close_pipes(int child);
+
+/* doord_timers.c: timers that tell ports, and the kernel's clock */
+void ask_timer(struct slot *slot, int member);
+bool is_any_armed(void);
+int time_for_timers(void);
+void run_timers(void);
+void end_timers(int place, bool is_killed);
 
 /* doord_long.c: messages of more bytes than the kernel takes */
 void tell_long(void);

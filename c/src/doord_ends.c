@@ -27,6 +27,7 @@ static void kill_place(int number)
 
 	enter_kernel(1, &kill);
 	place->is_spent = true;
+	end_timers(number, true);
 	for (int t = place->first; t <= place->last; t++) {
 		struct member *member = &doord.member[t];
 		forget_call(member);
@@ -62,6 +63,7 @@ static bool empty_place(int number)
 	for (int t = place->first; t <= place->last; t++)
 		if (!end_waiting(t))
 			return false;
+	end_timers(number, false);
 	for (int t = place->first; t <= place->last; t++)
 		unbind_member(t);
 	for (unsigned fd = 0; fd < DOORD_ROWS && place->rows > 0; fd++)

@@ -60,7 +60,8 @@ void ask_send_many(struct slot *slot, int number)
 		uint32_t row = (uint32_t)request->item[i], pipe = (uint32_t)(request->item[i] >> WIRE_PIPE);
 		item[i] = stands_for(slot->client, row, pipe, UINT32_MAX >> (WIRE_PIPE - 32)) ? row : WIRE_NO_FD;
 	}
-	struct asked asked = { .op = KERNEL_OP_SEND_MANY, .b = request->b, .c = request->c, .item = item, .items = request->items };
+	struct asked asked = { .op = KERNEL_OP_SEND_MANY, .b = request->b, .c = request->c, .item = item };
+	asked.items = request->items;
 	enter_kernel(number, &asked);
 	if (answer.kind != KERNEL_ANSWER_ERRORS) {
 		reply_done(slot);
@@ -82,8 +83,8 @@ void tell_events(struct slot *slot)
 
 	for (unsigned i = 0; i < count; i++) {
 		const uint64_t *word = answer.item + i * EVENT_WORDS;
-		struct wire_event event = { (uint32_t)word[KERNEL_EVENT_SOURCE], (uint32_t)word[KERNEL_EVENT_EVENTS], word[KERNEL_EVENT_OBJECT],
-			word[KERNEL_EVENT_USER] };
+		struct wire_event event = { (uint32_t)word[KERNEL_EVENT_SOURCE], (uint32_t)word[KERNEL_EVENT_EVENTS],
+			word[KERNEL_EVENT_OBJECT], word[KERNEL_EVENT_USER] };
 		if (event.source == KERNEL_SOURCE_DESCRIPTOR)
 			tell_source(slot->client->place, &event);
 		memcpy(reply->data + i * sizeof event, &event, sizeof event);
@@ -121,9 +122,11 @@ void ask_get(struct slot *slot, int number)
 	}
 }
 
-/* Whether somebody waits at a port for a time, and then comes back by himself. */
+/* Whether somebody waits at a port for a time, and then comes back by himself; or a timer may bring him back. */
 bool is_any_timed(void)
 {
+	if (is_any_armed())
+		return true;
 	for (int t = 2; t <= doord.members; t++) {
 		const struct member *member = &doord.member[t];
 		if (member->gets && member->slot && (member->slot->request.flags & WIRE_TIMED))

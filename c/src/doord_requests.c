@@ -389,6 +389,11 @@ static void ask_by(struct slot *slot, int member)
 	case KERNEL_OP_GET_MANY:
 		ask_get(slot, member);
 		break;
+	case KERNEL_OP_TIMER_CREATE:
+	case KERNEL_OP_TIMER_SET:
+	case KERNEL_OP_TIMER_DELETE:
+		ask_timer(slot, member);
+		break;
 	case KERNEL_OP_ASSOCIATE:
 		ask_associate(slot, member);
 		break;

@@ -1,8 +1,9 @@
 /*
- * doord_sources.c: port_associate(3C) and port_dissociate(3C), of descriptors of programs. The kernel knows nothing of these: for each
- * that is associated the process has a pipe in the kernel, whose reading end is the object of the association. The program says when its
- * descriptor is ready, and the keeper then writes a byte; it is read again before the next association. So that an event comes once, in
- * which order, and when it is withdrawn is the kernel's; the bits of poll(2) are the program's word.
+ * doord_sources.c: port_associate(3C) and port_dissociate(3C), of descriptors of programs. The kernel knows nothing
+ * of these: for each that is associated the process has a pipe in the kernel, whose reading end is the object of the
+ * association. The program says when its descriptor is ready, and the keeper then writes a byte; it is read again
+ * before the next association. So that an event comes once, in which order, and when it is withdrawn is the kernel's;
+ * the bits of poll(2) are the program's word.
  */
 #include "doord.h"
 
@@ -32,7 +33,8 @@ static void set_port(struct source *source, struct object *port)
 /* Whether its pipe is there, with both ends. */
 static bool has_pipe(int place, const struct source *source)
 {
-	return source->reader && row_of(place, source->read) == source->reader && row_of(place, source->write) == source->writer;
+	return source->reader && row_of(place, source->read) == source->reader
+		&& row_of(place, source->write) == source->writer;
 }
 
 static bool make_pipe(int place, struct source *source)
@@ -85,7 +87,7 @@ static struct source *find_source(int place, const struct object *port, uint32_t
 	return NULL;
 }
 
-/* One whose pipe nobody needs, or else one that has none yet, and then has; NULL where the process has no room for a pipe. */
+/* One whose pipe nobody needs, or else one that has none yet, and then has; NULL where the process has no room. */
 static struct source *free_source(int place)
 {
 	struct source *empty = NULL;
@@ -105,8 +107,9 @@ static uint32_t row_of_item(const struct slot *slot, unsigned i)
 {
 	uint64_t item = slot->request.item[i];
 	uint32_t row = (uint32_t)item, pipe = (uint32_t)(item >> WIRE_PIPE);
+	bool is_there = slot->request.items > i && stands_for(slot->client, row, pipe, UINT32_MAX >> (WIRE_PIPE - 32));
 
-	return slot->request.items > i && stands_for(slot->client, row, pipe, UINT32_MAX >> (WIRE_PIPE - 32)) ? row : WIRE_NO_FD;
+	return is_there ? row : WIRE_NO_FD;
 }
 
 static struct object *port_of(struct slot *slot, int place)

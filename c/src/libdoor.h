@@ -51,6 +51,11 @@ int real_daemon(int keeps_folder, int keeps_streams);
 unsigned real_alarm(unsigned seconds);
 useconds_t real_ualarm(useconds_t first, useconds_t next);
 int real_setitimer(int which, const struct itimerval *value, struct itimerval *old);
+int real_timer_create(clockid_t clock, struct sigevent *how, timer_t *timer);
+int real_timer_settime(timer_t timer, int flags, const struct itimerspec *value, struct itimerspec *old);
+int real_timer_gettime(timer_t timer, struct itimerspec *value);
+int real_timer_getoverrun(timer_t timer);
+int real_timer_delete(timer_t timer);
 int real_sigaction(int number, const struct sigaction *action, struct sigaction *old);
 int real_setcancelstate(int state, int *old);
 
@@ -263,6 +268,10 @@ struct stand_in take_stand_in(int fd);
 bool forget_stand_in(int fd);
 void renew_stand_ins(bool have_rows);
 int next_stand_in(int from);
+
+/* libdoor_timers.c: timers that tell ports */
+uintptr_t timer_told(uint64_t number, uint32_t times);
+void forget_timers(void);
 
 /* libdoor_sources.c: descriptors that are associated with ports */
 void report_ready(void);

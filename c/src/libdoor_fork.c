@@ -64,6 +64,7 @@ static void after_fork_in_child(void)
 		forget_files();
 		forget_doors();
 		forget_sources();
+		forget_timers();
 		forget_servers();
 		forget_service();
 		bool has_doors = forking.token != 0 && connect_broker(forking.token) == 0;

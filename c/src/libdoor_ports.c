@@ -1,6 +1,6 @@
 /*
- * libdoor_ports.c: event ports, port_create(3C), port_send(3C), port_alert(3C) and port_get(3C). A wait that has a time is ended in the
- * kernel when that is over, and then what is there is taken without a wait.
+ * libdoor_ports.c: event ports, port_create(3C), port_send(3C), port_alert(3C) and port_get(3C). A wait that has a
+ * time is ended in the kernel when that is over, and then what is there is taken without a wait.
  */
 #include "libdoor.h"
 
@@ -113,7 +113,8 @@ EXPORT int port_alert(int port, int flags, int events, void *user)
 	name_descriptor(ask.request, &it);
 	ask.request->b = (uint32_t)events;
 	ask.request->c = (uintptr_t)user;
-	ask.request->item[0] = flags == PORT_ALERT_SET ? KERNEL_ALERT_SET : flags == PORT_ALERT_UPDATE ? KERNEL_ALERT_UPDATE : KERNEL_ALERT_OTHER;
+	ask.request->item[0] = flags == PORT_ALERT_SET ? KERNEL_ALERT_SET
+		: flags == PORT_ALERT_UPDATE ? KERNEL_ALERT_UPDATE : KERNEL_ALERT_OTHER;
 	ask.request->items = 1;
 	return ask_simply(&ask);
 }
@@ -155,6 +156,8 @@ static void take_events(const struct wire_reply *reply, struct get *get)
 		to->portev_source = source_of(event.source);
 		to->portev_pad = 0;
 		to->portev_object = (uintptr_t)event.object;
+		if (event.source == KERNEL_SOURCE_TIMER)
+			to->portev_object = timer_told(event.object, event.events);
 		to->portev_user = (void *)(uintptr_t)event.user;
 	}
 	if (reply->kind == KERNEL_ANSWER_AVAILABLE)
@@ -261,7 +264,8 @@ EXPORT int port_getn(int port, port_event_t list[], uint_t most, uint_t *count, 
 		errno = EFAULT;
 		return -1;
 	}
-	struct get get = { .op = KERNEL_OP_GET_MANY, .most = most < MOST_EVENTS ? most : MOST_EVENTS, .least = *count, .list = list };
+	struct get get = { .op = KERNEL_OP_GET_MANY, .least = *count, .list = list };
+	get.most = most < MOST_EVENTS ? most : MOST_EVENTS;
 	if (*count > MOST_EVENTS && *count <= most) {
 		say_once(&said, "libdoor: ENOTSUP: port_getn waits for at most 64 events at once");
 		errno = ENOTSUP;

@@ -26,6 +26,11 @@ enum real {
 	REAL_ALARM,
 	REAL_UALARM,
 	REAL_SETITIMER,
+	REAL_TIMER_CREATE,
+	REAL_TIMER_SETTIME,
+	REAL_TIMER_GETTIME,
+	REAL_TIMER_GETOVERRUN,
+	REAL_TIMER_DELETE,
 	REAL_SIGACTION,
 	REAL_SETCANCELSTATE,
 	REALS,
@@ -58,6 +63,11 @@ static const char *const name_of[REALS] = {
 	[REAL_ALARM] = "alarm",
 	[REAL_UALARM] = "ualarm",
 	[REAL_SETITIMER] = "setitimer",
+	[REAL_TIMER_CREATE] = "timer_create",
+	[REAL_TIMER_SETTIME] = "timer_settime",
+	[REAL_TIMER_GETTIME] = "timer_gettime",
+	[REAL_TIMER_GETOVERRUN] = "timer_getoverrun",
+	[REAL_TIMER_DELETE] = "timer_delete",
 	[REAL_SIGACTION] = "sigaction",
 	[REAL_SETCANCELSTATE] = "pthread_setcancelstate",
 };
@@ -228,6 +238,41 @@ int real_setitimer(int which, const struct itimerval *value, struct itimerval *o
 	int (*function)(int, const struct itimerval *, struct itimerval *);
 
 	return find(REAL_SETITIMER, &function) ? function(which, value, old) : -1;
+}
+
+int real_timer_create(clockid_t clock, struct sigevent *how, timer_t *timer)
+{
+	int (*function)(clockid_t, struct sigevent *, timer_t *);
+
+	return find(REAL_TIMER_CREATE, &function) ? function(clock, how, timer) : -1;
+}
+
+int real_timer_settime(timer_t timer, int flags, const struct itimerspec *value, struct itimerspec *old)
+{
+	int (*function)(timer_t, int, const struct itimerspec *, struct itimerspec *);
+
+	return find(REAL_TIMER_SETTIME, &function) ? function(timer, flags, value, old) : -1;
+}
+
+int real_timer_gettime(timer_t timer, struct itimerspec *value)
+{
+	int (*function)(timer_t, struct itimerspec *);
+
+	return find(REAL_TIMER_GETTIME, &function) ? function(timer, value) : -1;
+}
+
+int real_timer_getoverrun(timer_t timer)
+{
+	int (*function)(timer_t);
+
+	return find(REAL_TIMER_GETOVERRUN, &function) ? function(timer) : -1;
+}
+
+int real_timer_delete(timer_t timer)
+{
+	int (*function)(timer_t);
+
+	return find(REAL_TIMER_DELETE, &function) ? function(timer) : -1;
 }
 
 int real_sigaction(int number, const struct sigaction *action, struct sigaction *old)

@@ -1,7 +1,8 @@
 /*
- * libdoor_sources.c: port_associate(3C) and port_dissociate(3C). A descriptor is ready when the system says so: at once, as it is associated;
- * or later, to a thread of the library that sleeps in epoll(7), which does not keep open what the program closes. Who looks at a port without
- * a wait looks at all descriptors himself, so that nothing is missed that has come by then.
+ * libdoor_sources.c: port_associate(3C) and port_dissociate(3C). A descriptor is ready when the system says so: at
+ * once, as it is associated; or later, to a thread of the library that sleeps in epoll(7), which does not keep open
+ * what the program closes. Who looks at a port without a wait looks at all descriptors himself, so that nothing is
+ * missed that has come by then.
  */
 #include "libdoor.h"
 
@@ -73,8 +74,8 @@ static void set_armed(struct source *source, bool is_armed)
 }
 
 /*
- * What is ready, of this descriptor, or of all where it is -1. It stays armed until it is told: another thread that looks meanwhile tells it as
- * well, and doord takes what comes first. The lock is taken.
+ * What is ready, of this descriptor, or of all where it is -1. It stays armed until it is told: another thread that
+ * looks meanwhile tells it as well, and doord takes what comes first. The lock is taken.
  */
 static void take_ready(int fd, struct ready *ready)
 {
@@ -267,7 +268,9 @@ EXPORT int port_dissociate(int port, int source, uintptr_t object)
 
 static bool has_source(int fd)
 {
-	return fd >= 0 && fd < LIBDOOR_DESCRIPTORS && (atomic_load_explicit(&own.has[fd / 64], memory_order_relaxed) & 1ull << fd % 64);
+	if (fd < 0 || fd >= LIBDOOR_DESCRIPTORS)
+		return false;
+	return atomic_load_explicit(&own.has[fd / 64], memory_order_relaxed) >> fd % 64 & 1;
 }
 
 /* The first descriptor that has been associated, from this number on, or -1. */

@@ -24,6 +24,7 @@ enum {
 	WIRE_LONG = 1 << 24, /* the most bytes of a message that goes beside the kernel */
 	WIRE_NAME = 64,
 	WIRE_PATHS = 4096, /* the most paths that can be attached */
+	WIRE_TIMERS = 32, /* the most timers of a program that tell ports */
 	WIRE_SOURCES = 128, /* the most descriptors of a program that are associated with ports at once */
 };
 
@@ -82,6 +83,8 @@ enum { WIRE_BESIDE = 4 };
  *   associate  a port, b the program's descriptor, WIRE_NO_FD where it is not open, c user value, item 0: poll(2)'s bits for which it is ready
  *              already, 0 none, item 1: as below where it stands for one of the kernel, else WIRE_NO_FD; the reply's a and c name it
  *   dissociate a port, b the program's descriptor, item 0: as item 1 above
+ *   timer create  a port, c user value; the reply's a is its number, below WIRE_TIMERS
+ *   timer set  a timer, c nanoseconds until it tells, 0 never, item 0: from one time to the next, 0 once;  timer delete  a timer
  *   get, get many  a port, b the most events, c the least; data of the reply: as many struct wire_event as there are
  * Where a is a descriptor, d is the number of the pipe that stands for it: another thread may have closed it meanwhile, and the kernel's
  * number may be another one's. Where it does not fit, a is no descriptor; 0 fits always.

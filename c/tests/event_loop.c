@@ -1,6 +1,7 @@
 /*
- * event_loop: a loop over a port as those of event libraries are: port_getn for one event at least and many at most, with no time, none to
- * wait, and some; each socket is associated anew after its event. Three clients send a byte and wait for it to come back.
+ * event_loop: a loop over a port as those of event libraries are: port_getn for one event at least and many at most,
+ * with no time, none to wait, and some; each socket is associated anew after its event. Three clients send a byte and
+ * wait for it to come back. A timer tells the port every millisecond, and each byte sends an event.
  *
  * usage: event_loop ROUNDS
  */
@@ -12,7 +13,8 @@
 
 enum { SOCKETS = 3, LIST = 1024 };
 
-static int port, rounds, here[SOCKETS], there[SOCKETS], echoed[SOCKETS], users, signals;
+static int port, rounds, here[SOCKETS], there[SOCKETS], echoed[SOCKETS], users, ticks, signals;
+static timer_t timer;
 
 static void *send_and_wait(void *which)
 {
@@ -61,8 +63,14 @@ static int take(const port_event_t *event)
 			raise(SIGALRM);
 		return 0;
 	}
+	if (event->portev_source == PORT_SOURCE_TIMER) {
+		check(event->portev_object == (uintptr_t)timer && event->portev_user == &timer);
+		ticks += event->portev_events;
+		return 0;
+	}
 	i = (int)((int *)event->portev_user - here);
-	check(event->portev_source == PORT_SOURCE_FD && event->portev_object == (uintptr_t)here[i] && (event->portev_events & POLLIN));
+	check(event->portev_source == PORT_SOURCE_FD && event->portev_object == (uintptr_t)here[i]);
+	check(event->portev_events & POLLIN);
 	return !serve(i);
 }
 
@@ -91,6 +99,18 @@ static void loop(void)
 	}
 }
 
+static void start_timer(void)
+{
+	port_notify_t to = { port, &timer };
+	struct itimerspec every = { { 0, 1000000 }, { 0, 1000000 } };
+	struct sigevent how;
+
+	memset(&how, 0, sizeof(how));
+	how.sigev_notify = SIGEV_PORT;
+	how.sigev_value.sival_ptr = &to;
+	check(timer_create(CLOCK_MONOTONIC, &how, &timer) == 0 && timer_settime(timer, 0, &every, NULL) == 0);
+}
+
 int main(int count, char **words)
 {
 	pthread_t thread[SOCKETS];
@@ -105,9 +125,11 @@ int main(int count, char **words)
 		there[i] = pair[1];
 		watch(i);
 	}
+	start_timer();
 	for (i = 0; i < SOCKETS; i++)
 		thread[i] = thread_of(send_and_wait, &there[i]);
 	loop();
+	check(timer_delete(timer) == 0 && ticks > 0);
 	for (i = 0; i < SOCKETS; i++)
 		check(pthread_join(thread[i], NULL) == 0 && echoed[i] == rounds);
 	check(signals == users / 50);

@@ -12,7 +12,8 @@ static void comes(int port, int source, int events, long user)
 	int answer = port_get(port, &event, &none);
 
 	check(answer == 0);
-	if (answer == 0 && (event.portev_source != source || event.portev_events != events || event.portev_user != (void *)user))
+	if (answer == 0 && (event.portev_source != source || event.portev_events != events ||
+	                    event.portev_user != (void *)user))
 		say("wanted source %d, events %d, user %ld; came %d, %d, %ld", source, events, user, event.portev_source,
 		    event.portev_events, (long)event.portev_user);
 }
@@ -100,7 +101,8 @@ static void alerts(int port)
 	fails(port_alert(port, PORT_ALERT_UPDATE, 8, (void *)2), EBUSY);
 	/* it stays, and goes before all events */
 	comes(port, PORT_SOURCE_ALERT, 9, 1);
-	check(port_getn(port, list, 4, &count, &long_time) == 0 && count == 1 && list[0].portev_source == PORT_SOURCE_ALERT);
+	check(port_getn(port, list, 4, &count, &long_time) == 0 && count == 1);
+	check(list[0].portev_source == PORT_SOURCE_ALERT);
 	check(port_alert(port, PORT_ALERT_SET, 0, NULL) == 0);
 	comes(port, PORT_SOURCE_USER, 1, 0);
 	fails(port_get(port, &event, &none), ETIME);

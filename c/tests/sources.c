@@ -1,4 +1,4 @@
-/* sources: descriptors that are associated with ports: pipes, sockets, files and a terminal, once, anew, and until they are closed. */
+/* sources: descriptors that are associated with ports, be they pipes, sockets, files or a terminal, until they are closed. */
 #define _GNU_SOURCE
 #include "test.h"
 
@@ -15,10 +15,10 @@ static void comes(int port, int fd, int events, long user, struct timespec *most
 	int answer = port_get(port, &event, most);
 
 	check(answer == 0);
-	if (answer == 0 && (event.portev_source != PORT_SOURCE_FD || event.portev_object != (uintptr_t)fd || event.portev_events != events ||
-	                    event.portev_user != (void *)user))
-		say("wanted descriptor %d, events %d, user %ld; came source %d, %d, %d, %ld", fd, events, user, event.portev_source,
-		    (int)event.portev_object, event.portev_events, (long)event.portev_user);
+	if (answer == 0 && (event.portev_source != PORT_SOURCE_FD || event.portev_object != (uintptr_t)fd ||
+	                    event.portev_events != events || event.portev_user != (void *)user))
+		say("wanted descriptor %d, events %d, user %ld; came source %d, %d, %d, %ld", fd, events, user,
+		    event.portev_source, (int)event.portev_object, event.portev_events, (long)event.portev_user);
 }
 
 static void nothing(int port)
@@ -37,7 +37,10 @@ static int take(int fd)
 	return read(fd, &byte, 1) == 1;
 }
 
-static int watch(int port, int fd, int events, long user) { return port_associate(port, PORT_SOURCE_FD, (uintptr_t)fd, events, (void *)user); }
+static int watch(int port, int fd, int events, long user)
+{
+	return port_associate(port, PORT_SOURCE_FD, (uintptr_t)fd, events, (void *)user);
+}
 
 static int unwatch(int port, int fd) { return port_dissociate(port, PORT_SOURCE_FD, (uintptr_t)fd); }
 
