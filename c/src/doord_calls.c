@@ -225,7 +225,7 @@ static bool is_any_released(const struct slot *slot)
 /* What the program released it closes before the message is waited for. */
 static void tell_taken(struct slot *slot, uint64_t kind)
 {
-	if (is_any_released(slot))
+	if (is_any_released(slot) || (slot->request.flags & WIRE_TELLS_TAKEN))
 		begin_reply(slot, kind)->flags = WIRE_TAKEN;
 }
 

@@ -156,6 +156,8 @@ struct thread {
 	size_t argument_size;
 	bool is_serving;           /* it runs a procedure */
 	bool is_cancel_disabled;
+	bool is_borrower;          /* the wait of another thread was lent to it (libdoor_lend.c) */
+	bool has_given_back;       /* and is that thread's again */
 };
 
 extern __thread struct thread thread __attribute__((tls_model("initial-exec")));
@@ -191,6 +193,7 @@ struct ask {
 	volatile bool is_kept;
 	const struct timespec *end; /* when the wait ends, by CLOCK_MONOTONIC; NULL: never by itself */
 	bool is_late;          /* that has passed, and doord was told so */
+	volatile bool is_lent; /* its wait is another thread's for now (libdoor_lend.c) */
 	uint32_t a, b;         /* of a simple request's answer */
 	uint64_t c, d, e;
 };
@@ -211,6 +214,8 @@ int ask_simply(struct ask *ask);
 int ask_about(uint32_t op, uint32_t a);
 int ask_about_descriptor(uint32_t op, const struct stand_in *it);
 void end_call_for_handler(struct ask *ask);
+void release_in_wait(struct ask *ask);
+void wait_anew(struct ask *ask);
 
 /* libdoor_message.c: what goes with calls and returns */
 struct sent {
@@ -298,8 +303,21 @@ void forget_servers(void);
 bool has_own_servers(void);
 void make_server_for(door_info_t *info);
 void hand_wait_on(uint32_t index);
+int make_heir(uint32_t index, uint64_t mask, bool is_borrower);
 
 int make_own_thread(void *(*body)(void *), void *argument);
+
+/* libdoor_lend.c: the wait of a thread whose handler makes a call */
+int lend_wait(void);
+void take_wait_back(struct ask *ask);
+bool leave_wait_lent(uint32_t index);
+bool is_borrower(void);
+bool is_wait_wanted(const struct ask *ask);
+bool give_wait_back(void);
+bool give_failure_back(void);
+void begin_end(uint32_t index);
+bool is_end_of_lease(uint32_t index);
+void forget_leases(void);
 
 /* libdoor_cancel.c: servers whose clients leave */
 enum at_service { SERVICE_NONE, SERVICE_GOES_ON, SERVICE_TOLD };

@@ -64,6 +64,7 @@ static void prepare(struct ask *ask)
 	ask->is_kept = false;
 	ask->end = NULL;
 	ask->is_late = false;
+	ask->is_lent = false;
 }
 
 /* Begins a request, whose operands the caller then puts in. */
@@ -175,20 +176,32 @@ static void sleep_on(struct ask *ask)
 	}
 
 	/* its procedures have been let in before, and nobody else takes them now */
-	if (thread.at == AT_WAIT && !is_program_there())
+	if (thread.at == AT_WAIT && !is_borrower() && !is_program_there())
 		let_signals_in();
 	atomic_compare_exchange_strong(&slot->turn, &seen, WIRE_ASLEEP);
-	if (seen != WIRE_TOLD && futex_wait(&slot->turn, WIRE_ASLEEP, &most) == ETIMEDOUT && most.tv_sec > 0) {
+	if (seen != WIRE_TOLD && !is_wait_wanted(ask) && futex_wait(&slot->turn, WIRE_ASLEEP, &most) == ETIMEDOUT && most.tv_sec > 0) {
 		look_for_broker();
 		tell_of_alarm(slot);
 	}
 }
 
-/* Sleeps until the answer is there, or until a handler has taken it, or has made this process another one by fork(2). */
+static bool is_told(const struct ask *ask)
+{
+	return !ask->is_lent && atomic_load_explicit(&ask->slot->turn, memory_order_acquire) == WIRE_TOLD;
+}
+
+/*
+ * Sleeps until the answer is there, or until a handler has taken it, or has made this process another one by fork(2), or until the thread
+ * whose wait it is wants it back.
+ */
 static void sleep_until_told(struct ask *ask)
 {
-	while (!ask->is_kept && is_of_this_process(ask) && atomic_load_explicit(&ask->slot->turn, memory_order_acquire) != WIRE_TOLD)
-		sleep_on(ask);
+	while (!ask->is_kept && is_of_this_process(ask) && !is_wait_wanted(ask) && !is_told(ask)) {
+		if (ask->is_lent)
+			take_wait_back(ask);
+		else
+			sleep_on(ask);
+	}
 }
 
 static void see_that_it_fits(const struct ask *ask)
@@ -218,8 +231,8 @@ static bool goes_on(struct ask *ask)
 }
 
 /*
- * Waits as `at` says for what was asked. -1 and EINTR where a handler has forked, and this is its child: then the request is over. Else the
- * answer is ask->reply until end_ask.
+ * Waits as `at` says for what was asked. -1 and EINTR where a handler has forked, and this is its child, or where the wait was given back:
+ * then the request is over. Else the answer is ask->reply until end_ask.
  */
 int wait_on(struct ask *ask, enum at at)
 {
@@ -231,9 +244,10 @@ int wait_on(struct ask *ask, enum at at)
 				run_put_off();
 		}
 		sleep_until_told(ask);
+		bool is_given_back = is_wait_wanted(ask) && give_wait_back();
 		if (!ask->is_borrowed)
 			set_at(AT_REQUEST);
-		if (!is_of_this_process(ask)) {
+		if (!is_of_this_process(ask) || is_given_back) {
 			if (!ask->is_borrowed)
 				leave_request();
 			errno = EINTR;
@@ -243,6 +257,9 @@ int wait_on(struct ask *ask, enum at at)
 			ask->reply = &ask->kept->reply;
 			return 0;
 		}
+		/* the answer may have been that of a thread to which a handler has just lent the wait */
+		if (!is_told(ask))
+			continue;
 		if (!goes_on(ask))
 			return 0;
 		post(ask);
@@ -279,6 +296,28 @@ void end_call_for_handler(struct ask *ask)
 		receive_files(ask->index, ask->number, ask->kept->file, reply->files);
 	atomic_store_explicit(&ask->slot->turn, WIRE_MINE, memory_order_relaxed);
 	ask->is_kept = true;
+}
+
+/* In a wait: what is released with the results of a procedure, where something is. */
+void release_in_wait(struct ask *ask)
+{
+	bool is_any = false;
+
+	for (unsigned i = 0; ask->sent && i < ask->sent->count; i++)
+		is_any = is_any || ask->sent->is_released[i];
+	if (!is_any || ask->request->op != KERNEL_OP_RETURN)
+		return;
+	sleep_until_told(ask);
+	if (goes_on(ask))
+		post(ask);
+}
+
+/* In a wait: the kernel's thread that waited has ended, and another one does. */
+void wait_anew(struct ask *ask)
+{
+	ask->sent = NULL;
+	put_request(ask, KERNEL_OP_RETURN);
+	post(ask);
 }
 
 /* A handler's call took a thread of the kernel, which is not needed any more. */

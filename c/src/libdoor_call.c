@@ -124,6 +124,10 @@ EXPORT int door_call(int fd, door_arg_t *arg)
 
 	if (begin_ask(&ask, KERNEL_OP_CALL) < 0)
 		return -1;
+	if (ask.is_borrowed && lend_wait() < 0) {
+		give_up_ask(&ask);
+		return -1;
+	}
 	ask.kept = &kept;
 	name_descriptor(ask.request, &it);
 	ask.request->c = in->rbuf ? in->rsize : 0;

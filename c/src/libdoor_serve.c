@@ -63,6 +63,8 @@ static int hand_over(struct service *service, const struct results *results)
 		let_signals_in();
 		return -1;
 	}
+	if (is_borrower())
+		ask->request->flags |= WIRE_TELLS_TAKEN;
 	if (put_message(ask, &sent, results->data, results->size, results->desc, results->count) < 0) {
 		give_up_ask(ask);
 		let_signals_in();
@@ -75,7 +77,13 @@ static int hand_over(struct service *service, const struct results *results)
 static int take_wait_over(struct service *service)
 {
 	resume_ask(&service->ask);
-	return wait_on(&service->ask, AT_WAIT) < 0 ? -1 : see_answer(&service->ask);
+	if (wait_on(&service->ask, AT_WAIT) < 0)
+		return -1;
+	if (service->ask.reply->error != 0 && give_failure_back()) {
+		set_at(AT_PROGRAM);
+		return -1;
+	}
+	return see_answer(&service->ask);
 }
 
 /* Descriptors for what came; the client waits for its results, so the procedure runs also where one has no room, without it. */
@@ -106,6 +114,8 @@ static char *place_bytes(struct service *service, size_t *size)
 
 static void invoke(struct service *service)
 {
+	if (thread.has_given_back)
+		return;
 	const struct wire_reply *reply = service->ask.reply;
 	uint32_t kind = reply->kind, number = reply->b, flags = reply->flags, request = service->ask.number;
 	size_t size = reply->data_size;
@@ -135,7 +145,7 @@ static void invoke(struct service *service)
 
 /*
  * The place to which the thread comes back for each invocation. Without results it takes a wait over. It comes back with -1 where there is
- * no first invocation; a procedure that comes to its end without door_return(3C) ends its thread, and its client is told EINTR.
+ * no first invocation; a thread that has given its wait back ends; a procedure that comes to its end without door_return(3C) ends its thread, and its client is told EINTR.
  */
 static int serve_here(struct service *service, const struct results *results)
 {
@@ -190,7 +200,7 @@ EXPORT int door_return(char *data, size_t size, door_desc_t *desc, uint_t count)
 	enum at_service at = leave_service();
 	if (!has_place())
 		(void)serve_here(&service, &results);
-	else if (hand_over(thread.service, &results) == 0)
+	else if (hand_over(thread.service, &results) == 0 || thread.has_given_back)
 		_longjmp(thread.place, 1);
 	int error = errno;
 	resume_service(at);

@@ -3,7 +3,6 @@
 
 #include <errno.h>
 #include <pthread.h>
-#include <stdlib.h>
 
 static void make_server(door_info_t *info);
 
@@ -117,34 +116,40 @@ void forget_servers(void)
 	atomic_store(&own.owed, 0);
 }
 
-/* A thread that waited for calls has ended, or jumped away, in a handler. The kernel's thread waits on, so another takes its place. */
+/* Who takes the place of a thread that waited for calls: of a slot there is one at a time. */
 struct heir {
 	uint32_t index;
 	uint64_t mask;
+	bool is_borrower;
 };
 
 static void *inherit(void *argument)
 {
-	struct heir *heir = argument;
+	const struct heir *heir = argument;
 
 	thread.is_of_library = true;
 	thread.mask = heir->mask;
+	thread.is_borrower = heir->is_borrower;
 	(void)pthread_setcancelstate(PTHREAD_CANCEL_DISABLE, NULL);
 	have_slot(heir->index);
-	free(heir);
 	(void)serve_on();
 	return NULL;
 }
 
+/* 0, or an error. A handler of signals may be where this is called, in a thread that waits. */
+int make_heir(uint32_t index, uint64_t mask, bool is_borrower)
+{
+	static struct heir heirs[WIRE_SLOTS];
+
+	heirs[index] = (struct heir){ index, mask, is_borrower };
+	return make_own_thread(inherit, &heirs[index]);
+}
+
+/* A thread that waited for calls has ended, or jumped away, in a handler. The kernel's thread waits on, so another takes its place. */
 void hand_wait_on(uint32_t index)
 {
 	uint32_t op = connection.area->slot[index].request.op;
-	struct heir *heir = op == KERNEL_OP_RETURN || op == WIRE_WAIT ? malloc(sizeof *heir) : NULL;
 
-	if (!heir)
-		return;
-	heir->index = index;
-	heir->mask = program_mask();
-	if (make_own_thread(inherit, heir) != 0)
-		free(heir);
+	if (op == KERNEL_OP_RETURN || op == WIRE_WAIT)
+		(void)make_heir(index, program_mask(), false);
 }

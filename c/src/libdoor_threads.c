@@ -130,7 +130,8 @@ static void leave_wait(void)
 	set_at(AT_PROGRAM);
 	thread.slot = NULL;
 	thread.service = NULL;
-	hand_wait_on(thread.index);
+	if (!leave_wait_lent(thread.index))
+		hand_wait_on(thread.index);
 	program_leaves();
 }
 
@@ -158,11 +159,13 @@ static void leave(void *unused)
 	}
 	(void)end_service();
 	leave_request();
+	begin_end(thread.index);
 	if (begin_ask(&ask, WIRE_LEAVE) == 0)
 		(void)ask_simply(&ask);
 	uint32_t index = thread.index;
 	thread.slot = NULL;
-	give_slot_back(index);
+	if (!is_end_of_lease(index))
+		give_slot_back(index);
 	program_leaves();
 	let_watcher_end();
 }
@@ -186,6 +189,7 @@ void forget_threads(void)
 	for (unsigned word = 0; word < WIRE_SLOT_WORDS; word++)
 		atomic_store(&own.taken[word], 0);
 	atomic_store(&own.program, 0);
+	forget_leases();
 	thread.slot = NULL;
 	thread.ask = NULL;
 	set_at(AT_PROGRAM);

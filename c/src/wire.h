@@ -57,6 +57,7 @@ enum {
 	WIRE_KEEPER = 1, /* by the process's keeper, whatever the thread waits for */
 	WIRE_WAITS = 8,  /* of a get: until there are events */
 	WIRE_TIMED = 16, /* and the program ends the wait after a time, by `interrupted` */
+	WIRE_TELLS_TAKEN = 2, /* of a return: it is answered as if something were released */
 };
 
 /*
@@ -92,8 +93,8 @@ enum { WIRE_BESIDE = 4 };
  * for an ordinary file, with WIRE_RELEASE where the program releases it. Files come by the control socket: the n-th of these items with the
  * n-th file of the message.
  *
- * A call or return of which no item has WIRE_RELEASE is answered once, at its end. Where one has, and it is not refused, the first answer is
- * the kernel's wait with WIRE_TAKEN: the program closes what it released, so that nobody waits for its copies, and asks WIRE_WAIT, whose
+ * A call or return of which no item has WIRE_RELEASE is answered once, at its end. Where one has, or a return has WIRE_TELLS_TAKEN, and
+ * it is not refused, the first answer is the kernel's wait with WIRE_TAKEN: the program closes what it released, so that nobody waits for its copies, and asks WIRE_WAIT, whose
  * answer is that of the end.
  */
 #define WIRE_RELEASE (1ull << 32)

@@ -67,3 +67,48 @@ case_stop_and_continue() {
         ask w "call v hold on c" & c=$!; seen "= enter c4 "; kill -STOP $s; touch on; seen "return .c. = wait"; kill -CONT $s; wait $c'
     gives 'echo a: a' 'hold go b: b' 'call v hold on c: c'
 }
+
+# A handler, in a thread that waits for calls, calls a door of its own process: another thread waits in its place until the handler has
+# ended, and serves nobody any more.
+for_itself='
+itself() {
+    command itself "$@" & server=$!
+    serving="$serving $server"
+    doorwait itself
+    seen "return \"\" = wait" $threads
+    kill -USR1 $server
+}
+'
+
+case_handler_calls_itself() {
+    run "$for_itself threads=1; itself 1 who passed large who; held handled; ask itself who" -b 'itself=2,0,0'
+    gives 'handler: who: another' 'handler: passed: another' 'handler: large: another' 'handler: who: another' 'who: main'
+    says 'libdoor: E2BIG: a message of this kernel has at most 4,096 bytes; doord --long takes more'
+    run "$for_itself threads=1; itself -p 1 who again; held handled; ask itself who" -b 'itself=3,0,0'
+    gives 'handler: who: another' 'inner: who: another' 'handler: who: another' 'who: main'
+    run "$for_itself threads=1; itself 1 fall who; held handled; ask itself who" -b 'itself=3,0,0'
+    gives 'handler: fall: EINTR' 'handler: who: another' 'who: main'
+}
+
+# The call comes to the thread's own wait by way of another one. Both threads wait again.
+case_handler_calls_its_pool() {
+    run "$for_itself threads=2; itself 2 nest who; held handled
+        ask itself 'hold a' >said_a & a=\$!; held a_held; ask itself 'hold b' >said_b & b=\$!; held b_held; touch a b; wait \$a \$b
+        sed 's/.*://' said_a said_b" -b 'itself=3,0,0'
+    gives_sorted 'handler: nest: another' 'handler: who: another' ' another' ' main'
+}
+
+# A client is served as the handler ends, and another one waits: that one comes to the thread itself.
+case_handler_ends_while_one_is_served() {
+    run "$for_itself threads=1; itself 1 'hold gate' 'stay on_held'; held gate_held; ask itself 'hold on' & a=\$!; seen '= wait c2'; touch gate
+        held handled; ask itself who & b=\$!; seen '= wait c3'; touch on; wait \$a \$b" -b 'itself=2,0,0'
+    gives_sorted 'handler: hold gate: another' 'hold on: another' 'who: main'
+}
+
+# The wait stays with who has it, and the thread can wait again.
+case_handler_calls_and_leaves() {
+    run "$for_itself threads=1; itself -l 1 who; held handled; seen 'return \"\" = wait' 2
+        ask itself 'hold a' >said_a & a=\$!; held a_held; ask itself 'hold b' >said_b & b=\$!; held b_held; touch a b; wait \$a \$b
+        sed 's/.*://' said_a said_b" -b 'itself=3,0,0'
+    gives_sorted 'handler: who: another' 'main: who: another' ' another' ' main'
+}
