@@ -343,6 +343,40 @@ void unbind_member(int number)
 	member->bound = NULL;
 }
 
+/* Requests on ports, timers and what is associated; all else there is none of. */
+static void ask_by_port(struct slot *slot, int member)
+{
+	switch (slot->request.op) {
+	case KERNEL_OP_PORT_CREATE:
+		ask_port_create(slot, member);
+		break;
+	case KERNEL_OP_SEND:
+	case KERNEL_OP_ALERT:
+		ask_send(slot, member);
+		break;
+	case KERNEL_OP_SEND_MANY:
+		ask_send_many(slot, member);
+		break;
+	case KERNEL_OP_GET:
+	case KERNEL_OP_GET_MANY:
+		ask_get(slot, member);
+		break;
+	case KERNEL_OP_TIMER_CREATE:
+	case KERNEL_OP_TIMER_SET:
+	case KERNEL_OP_TIMER_DELETE:
+		ask_timer(slot, member);
+		break;
+	case KERNEL_OP_ASSOCIATE:
+		ask_associate(slot, member);
+		break;
+	case KERNEL_OP_DISSOCIATE:
+		ask_dissociate(slot, member);
+		break;
+	default:
+		reply_error(slot, ENOTSUP);
+	}
+}
+
 /* all requests */
 
 static void ask_by(struct slot *slot, int member)
@@ -375,36 +409,11 @@ static void ask_by(struct slot *slot, int member)
 	case KERNEL_OP_FORK:
 		ask_fork(slot, member);
 		break;
-	case KERNEL_OP_PORT_CREATE:
-		ask_port_create(slot, member);
-		break;
-	case KERNEL_OP_SEND:
-	case KERNEL_OP_ALERT:
-		ask_send(slot, member);
-		break;
-	case KERNEL_OP_SEND_MANY:
-		ask_send_many(slot, member);
-		break;
-	case KERNEL_OP_GET:
-	case KERNEL_OP_GET_MANY:
-		ask_get(slot, member);
-		break;
-	case KERNEL_OP_TIMER_CREATE:
-	case KERNEL_OP_TIMER_SET:
-	case KERNEL_OP_TIMER_DELETE:
-		ask_timer(slot, member);
-		break;
-	case KERNEL_OP_ASSOCIATE:
-		ask_associate(slot, member);
-		break;
-	case KERNEL_OP_DISSOCIATE:
-		ask_dissociate(slot, member);
-		break;
 	default:
 		if (is_simple(slot->request.op))
 			ask_simple(slot, member);
 		else
-			reply_error(slot, ENOTSUP);
+			ask_by_port(slot, member);
 	}
 }
 

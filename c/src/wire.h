@@ -94,8 +94,8 @@ enum { WIRE_BESIDE = 4 };
  * n-th file of the message.
  *
  * A call or return of which no item has WIRE_RELEASE is answered once, at its end. Where one has, or a return has WIRE_TELLS_TAKEN, and
- * it is not refused, the first answer is the kernel's wait with WIRE_TAKEN: the program closes what it released, so that nobody waits for its copies, and asks WIRE_WAIT, whose
- * answer is that of the end.
+ * it is not refused, the first answer is the kernel's wait with WIRE_TAKEN: the program closes what it released, so that
+ * nobody waits for its copies, and asks WIRE_WAIT, whose answer is that of the end.
  */
 #define WIRE_RELEASE (1ull << 32)
 #define WIRE_FILE (1ull << 33)
