@@ -86,18 +86,24 @@ static void once(int port)
 	fails(timer_getoverrun(timer), EINVAL);
 }
 
-/* What nobody takes is counted; a timer that is deleted takes its event along. */
+/* What nobody takes is counted, by a clock that is not ahead; a timer that is deleted takes its event along. */
 static void again(int port)
 {
 	struct timespec some = { 0, 50000000 };
+	long long begun = now(CLOCK_MONOTONIC);
+	int times, all = 0, most = 0;
 	timer_t timer;
-	int times;
 
 	check(make(port, CLOCK_MONOTONIC, 9, &timer) == 0 && set(timer, 5000000, 5000000) == 0);
-	nanosleep(&some, NULL);
-	times = comes(port, timer, 9);
-	check(times >= 9 && timer_getoverrun(timer) == times - 1);
-	comes(port, timer, 9);
+	while (all < 9 || most < 2) {
+		nanosleep(&some, NULL);
+		times = comes(port, timer, 9);
+		check(times >= 1 && timer_getoverrun(timer) == times - 1);
+		all += times;
+		if (times > most)
+			most = times;
+	}
+	check(all <= (now(CLOCK_MONOTONIC) - begun) / 5000000);
 	nanosleep(&some, NULL);
 	check(timer_delete(timer) == 0);
 	nothing(port);
