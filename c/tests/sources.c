@@ -1,5 +1,5 @@
 /* sources: descriptors that are associated with ports, be they pipes, sockets, files or a terminal, until they are closed. */
-#define _GNU_SOURCE
+#define _GNU_SOURCE 1
 #include "test.h"
 
 #include <poll.h>

@@ -3,7 +3,7 @@
  * its own, and the daemon, which knows by door_cred(3C) to whom it gave the writing end, puts pid and uid before each.
  * The main thread reads them all.
  */
-#define _GNU_SOURCE
+#define _GNU_SOURCE 1
 #include <errno.h>
 #include <fcntl.h>
 #include <poll.h>
