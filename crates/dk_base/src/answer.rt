@@ -1,3 +1,4 @@
+//! What a kernel entry, or the end of a wait, answers.
 ghost use Rattle.std.specs.Prelude.{◌≡◌, IfOk};
 
 use crate::error::{Errno, NoMemory};

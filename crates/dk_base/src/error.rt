@@ -1,3 +1,4 @@
+//! Errors: want of memory, a stream that failed, and the error numbers that the kernel answers.
 use std::fmt;
 use thiserror::Error;
 

@@ -1,3 +1,4 @@
+//! Events of a run, and what one step of a kernel gives.
 use crate::answer::Answer;
 use crate::list::TidList;
 use crate::number::Tid;

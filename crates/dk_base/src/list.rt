@@ -1,3 +1,4 @@
+//! `Sequence`, a list that clauses see as its items alone, and the names of its uses.
 ghost use Rattle.std.specs.Prelude.{◌≡◌, ℕ, ◌+◌, ◌<◌, ◌≤◌, ◌==◌, List, [], ◌∷◌, ◌++◌, length, slice_get, Some, IfOk, OnOk, OnErr};
 
 use crate::error::{Errno, NoMemory};

@@ -1,3 +1,5 @@
+//! Numbers of processes, threads, descriptors and paths, each of a type of its own.
+
 /// A process, numbered from 1.
 #[derive(Clone, Copy, Debug, PartialEq, Eq)]
 pub struct Pid(pub u32);

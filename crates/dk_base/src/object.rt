@@ -1,3 +1,4 @@
+//! What descriptors name and calls pass, what invocations serve, and the events that ports give.
 use crate::number::Fd;
 
 /// What a descriptor names. Doors, ports and pipes are numbered from 1.

@@ -1,3 +1,4 @@
+//! Kernel entries with their operands.
 ghost use Rattle.std.specs.Prelude.{◌≡◌, IfOk};
 
 use crate::error::NoMemory;

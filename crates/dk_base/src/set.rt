@@ -1,3 +1,4 @@
+//! Sets of bits: the attributes of a door, and what an association polls for.
 ghost use Rattle.std.specs.Prelude.{⊤, [], ◌∷◌, codes};
 
 use bitflags::{Flag, Flags, bitflag_items};

@@ -1,5 +1,5 @@
-//! The kernel: the acts of doors, calls, descriptors, names, pipes, ports, associations, timers and tasks over what it holds, and what follows them. Each of its calls is proved
-//! to be a step of the written kernel.
+//! The kernel: the acts of doors, calls, descriptors, names, pipes, ports, associations, timers and tasks over what it
+//! holds, and what follows them. Each of its calls is proved to be a step of the written kernel.
 #![tactic(auto)]
 
 mod acts;

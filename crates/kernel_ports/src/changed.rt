@@ -1,3 +1,4 @@
+//! What an event changed of what ports watch.
 use dk_base::object::Obj;
 use dk_base::set::PollSet;
 

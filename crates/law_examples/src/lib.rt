@@ -1,4 +1,5 @@
-//! A worked run, so that the laws speak of something: definitions in `specs/`, its proof in `proofs/`.
+//! Worked runs, each proved to be a run, so that the laws speak of something: doors and calls, children, ports,
+//! associations, timers, tasks and tables. Definitions in `specs/`, what is said of each in `src/`, proofs in `proofs/`.
 #![tactic(auto)]
 
 pub mod association_runs;

@@ -1,3 +1,5 @@
+//! The first words of the lines in a script's bodies.
+
 /// The first word of a body's line.
 #[derive(Clone, Copy, PartialEq, Eq)]
 pub enum Keyword {

@@ -1,3 +1,4 @@
+//! How a keyword is written, and since which version of the language it is one.
 ghost use Rattle.std.specs.Prelude.{◌≡◌};
 ghost use Rattle.line_forms.specs.Keywords.{keyword_version, keyword_word, keyword_create_to_info as create_to_info_spelled, keyword_getparam_to_detach as getparam_to_detach_spelled, keyword_open_to_get as open_to_get_spelled, keyword_getn_to_end as getn_to_end_spelled, keyword_since_2 as since_2_spelled, keyword_of as keyword_spelled};
 

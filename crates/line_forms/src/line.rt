@@ -1,3 +1,4 @@
+//! The lines of bodies, with their operands.
 use dk_base::error::Errno;
 use dk_base::list::{Bytes, Sequence};
 use dk_base::number::{PathId, Pid, Tid};

@@ -1,3 +1,4 @@
+//! The paths of a script, in the order of their first uses.
 use dk_base::error::NoMemory;
 use indexmap::IndexSet;
 use std::alloc::Global;

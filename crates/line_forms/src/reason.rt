@@ -1,3 +1,4 @@
+//! Why a line is refused.
 use std::fmt;
 
 /// Why a line is bad. Of several that apply to a line it is the first.

@@ -1,3 +1,4 @@
+//! Where a name stands in a list of names.
 ghost use Rattle.std.specs.Prelude.{◌≡◌, [], position, slice_get, unwrap_or, option_map};
 ghost use Rattle.dk_base.specs.ByNumber.{at_number};
 ghost use Rattle.line_forms.specs.Tables.{is_same, is_procedure};

@@ -1,3 +1,4 @@
+//! The names that a script declares, with their numbers.
 ghost use Rattle.std.specs.Prelude.{◌≡◌, IfOk};
 
 use crate::paths::PathTable;

@@ -1,3 +1,4 @@
+//! Why a line was not read: it is bad, or memory is wanting.
 use dk_base::error::NoMemory;
 use line_forms::reason::Reason;
 use thiserror::Error;

@@ -1,3 +1,4 @@
+//! The operands of a line, taken one after the other.
 ghost use Rattle.std.specs.Prelude.{◌≡◌, ◌∷◌, [], Ok, Some, None, MatchResult, MatchOption, option_copied};
 ghost use Rattle.line_reader.specs.Combinators.{Rest, rest_of, next_word as next_word_read, optional_word as optional_word_read, value_at_end as value_at_end_read, declared_number as declared_number_read};
 ghost use Rattle.line_reader.specs.Operands.{number as number_read, number_from_word as number_from_word_read, name_from_word as name_from_word_read, name as name_read};

@@ -1,3 +1,4 @@
+//! A text, line by line.
 ghost use Rattle.std.specs.Prelude.{◌≡◌, ◌∷◌, [], ◌<◌, ◌==◌, length, position, MatchOption, IfSome};
 ghost use Rattle.line_text.specs.Lines.{lines_of};
 

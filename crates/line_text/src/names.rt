@@ -1,3 +1,4 @@
+//! Names: which words are names, and lists of them.
 ghost use Rattle.std.specs.Prelude.{◌≡◌, ◌≤◌, ◌+◌, OnOk, OnErr, length};
 ghost use Rattle.std.specs.List.{list_all};
 ghost use Rattle.line_text.specs.Names.{is_letter as is_letter_byte, is_name_byte as is_name_byte_of, is_name as is_name_word, has_name as has_such_name, with_distinct_name};

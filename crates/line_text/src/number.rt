@@ -1,3 +1,4 @@
+//! Numbers in decimal, within their range.
 ghost use Rattle.std.specs.Prelude.{◌≡◌, ◌+◌, ◌-◌, ◌*◌, true};
 ghost use Rattle.std.specs.List.{list_all};
 ghost use Rattle.line_text.specs.Numbers.{is_digit as is_digit_byte, is_decimal as is_decimal_word, value_of, number_in_64_bits, bounded_number as number_of_word};

@@ -1,3 +1,4 @@
+//! Strings between quotes: the bytes that one stands for, and the text of bytes.
 ghost use Rattle.std.specs.Prelude.{◌≡◌, ◌<◌, ◌++◌, [], Some, None, true, length, MatchOption, IfOk, IfSome, OnOk, if◌then◌else◌};
 ghost use Rattle.line_text.specs.Lines.{is_printable as is_printable_byte};
 ghost use Rattle.line_text.specs.Strings.{Plain, Escaped, High, is_hex as is_hex_byte, hex_value as value_of_hex, is_marked as is_marked_byte, text_with_first, text_at_end, text_from, string_of as text_of_string, hex_digit as digit_of_hex, quoted_byte, quoted_text as quoted_bytes};

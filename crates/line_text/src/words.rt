@@ -1,3 +1,4 @@
+//! The words of a line.
 ghost use Rattle.std.specs.Prelude.{◌≡◌, ◌∷◌, [], ◌<◌, ◌≤◌, true, length, take, drop, MatchOption, IfSome};
 ghost use Rattle.line_text.specs.LineWords.{is_in_word, is_unindented, mode_after as mode_after_byte, words_from, words_of};
 

@@ -1,3 +1,4 @@
+//! A text that is written word by word.
 ghost use Rattle.std.specs.Prelude.{◌≡◌, [], ◌∷◌, ◌++◌, decimal, IfOk, OnOk, OnErr};
 ghost use Rattle.line_text.specs.Strings.{quoted_text as quoted_bytes};
 

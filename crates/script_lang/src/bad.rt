@@ -1,3 +1,4 @@
+//! Why a text was not read: its first bad line, or want of memory.
 ghost use Rattle.std.specs.Prelude.{◌≡◌};
 ghost use Rattle.script_lang.specs.declared.bad.ParseFault.TheVariants.{Memory};
 

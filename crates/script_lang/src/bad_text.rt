@@ -1,3 +1,4 @@
+//! The line that answers a text that spells no script.
 ghost use Rattle.std.specs.Prelude.{◌≡◌, IfOk};
 ghost use Rattle.script_lang.specs.BadText.{bad_text as text_of_bad};
 

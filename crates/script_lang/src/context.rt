@@ -1,3 +1,4 @@
+//! What the lines so far declare, as far as the next line needs it.
 ghost use Rattle.std.specs.Prelude.{◌≡◌, ◌≤◌, ◌∷◌, ◌++◌, [], length, OnErr, OnOk};
 ghost use Rattle.dk_base.specs.declared.limits.TheConstants.{PROCESSES_MAX};
 ghost use Rattle.line_text.specs.Words.{has_name as has_such_name};

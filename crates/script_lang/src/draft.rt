@@ -1,3 +1,4 @@
+//! A script while its lines are read.
 ghost use Rattle.std.specs.Prelude.{◌≡◌, ◌≤◌, ◌∷◌, ◌++◌, [], true, length, OnOk};
 ghost use Rattle.dk_base.specs.declared.limits.TheConstants.{DEPTH_MAX};
 ghost use Rattle.line_forms.specs.Words.{depth_after as depth_after_item, kind_of as kind_of_line};

@@ -1,3 +1,4 @@
+//! The lines of a script after the first.
 use dk_base::list::{Bytes, TidList};
 use dk_base::number::Pid;
 use line_forms::line::Line;

@@ -1,3 +1,4 @@
+//! A script from its text.
 ghost use Rattle.std.specs.Prelude.{◌≡◌, ◌<◌, length, MatchResult, Ok};
 ghost use Rattle.script_lang.specs.Parsing.{parse_result, version_of as version_of_line};
 ghost use Rattle.script_lang.specs.Decided.{IsParsed};

@@ -1,3 +1,4 @@
+//! Scripts: processes, threads, spares and server procedures, with their bodies.
 use crate::laws;
 use dk_base::list::{Bytes, Sequence, TidList};
 use dk_base::number::{Pid, Tid};

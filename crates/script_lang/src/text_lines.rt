@@ -1,3 +1,4 @@
+//! What one line of a script says.
 ghost use Rattle.std.specs.Prelude.{◌≡◌, ◌≤◌, length, Ok, Err, MatchResult, MatchOption, IfOk};
 ghost use Rattle.std.specs.List.{list_all};
 ghost use Rattle.line_text.specs.Words.{is_printable as is_printable_byte};

@@ -1,3 +1,4 @@
+//! The lines of a script, read one after the other.
 ghost use Rattle.std.specs.Prelude.{◌≡◌, ℕ, ◌∷◌, ◌+◌, ◌<◌, ◌^◌, List, [], length, OnOk, IfOk, IfErr, Ok, Err, None, MatchResult};
 ghost use Rattle.script_lang.specs.Context.{first_context};
 ghost use Rattle.script_lang.specs.Drafts.{empty_draft};

@@ -1,3 +1,4 @@
+//! Which variables a body sets or names.
 ghost use Rattle.std.specs.Prelude.{◌≡◌, ◌++◌, flat_map, OnOk};
 ghost use Rattle.line_text.specs.Words.{with_distinct_name, with_distinct_names};
 ghost use Rattle.line_forms.specs.Words.{fd_variables, pass_variables, piece_variables, variables_of};

@@ -1,4 +1,5 @@
-//! The written kernel: its definitions, in `specs/`, and lemmas about them, in `proofs/`; and as traits what is asked of a kernel that keeps to it.
+//! The written kernel, which is the definition of the product: states, acts, what follows each act, the step, and runs
+//! of steps, in `specs/`; lemmas about them, in `proofs/`; and as traits what a kernel that keeps to it answers.
 #![tactic(auto)]
 
 pub mod answering;

@@ -1,3 +1,4 @@
+//! Associations of objects with ports.
 use crate::port::Queued;
 use dk_base::number::{Fd, Pid};
 use dk_base::object::Obj;

@@ -1,3 +1,4 @@
+//! Who leaves its calls.
 use dk_base::number::{Pid, Tid};
 
 /// Who leaves a call, or what can be called no more.

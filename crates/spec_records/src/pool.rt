@@ -1,3 +1,4 @@
+//! Server pools, and what waits in them.
 use dk_base::number::{Pid, Tid};
 use dk_base::object::Item;
 

@@ -1,3 +1,4 @@
+//! What a port holds besides its number.
 use dk_base::object::EventRec;
 
 /// What port_alert(3C) set, while a port is in alert mode.

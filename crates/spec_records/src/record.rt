@@ -1,3 +1,4 @@
+//! Processes, threads, doors, names, calls and notices.
 ghost use Rattle.std.specs.Prelude.{◌≡◌, IfOk};
 
 use dk_base::error::{Errno, NoMemory};

@@ -1,4 +1,5 @@
-//! A script, the kernel and the journal of its events.
+//! A run of a script: its machines, the kernel, the tables of name services and the journal of events. One turn takes one
+//! event; `Sys` is a run in any order of turns, `Playing` one in the order that a schedule gives.
 #![tactic(auto)]
 
 pub mod asked;

@@ -1,3 +1,4 @@
+//! The values of operands: descriptors, passed descriptors and data.
 ghost use Rattle.std.specs.Prelude.{◌≡◌, ◌≤◌, ◌-◌, ◌++◌, length, map, take, replicate, IfOk, OnOk};
 ghost use Rattle.spec_requests.specs.Words.{data_of, fd_of, greatest_data as greatest_data_of, pass_of, piece_bytes};
 ghost use Rattle.thread_machine.specs.Slots.{slot_value};

@@ -1,3 +1,4 @@
+//! Lists that are filled within their fixed room.
 ghost use Rattle.std.specs.Prelude.{◌≡◌, ◌+◌, ◌≤◌, length, take};
 ghost use Rattle.dk_base.specs.Words.{RoomValue};
 

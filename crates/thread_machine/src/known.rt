@@ -1,3 +1,4 @@
+//! What an `if` knows of the last answer, and whether its test holds.
 ghost use Rattle.std.specs.Prelude.{◌≡◌};
 ghost use Rattle.thread_machine.specs.LastAnswers.{is_met_in, last_answer as last_answer_of};
 

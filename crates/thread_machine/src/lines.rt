@@ -1,3 +1,4 @@
+//! What a line says of its turns, its test and its variables.
 ghost use Rattle.std.specs.Prelude.{◌≡◌, option_copied, slice_get};
 ghost use Rattle.spec_requests.specs.Words.{tested_condition as tested_condition_of, times_of as times_of_line, vars_of};
 

@@ -1,3 +1,4 @@
+//! A thread at its place in a script: its next request, and what an answer changes.
 ghost use Rattle.std.specs.Prelude.{◌≡◌, ◌<◌, ◌≤◌, length, IfOk, OnOk, [], Some};
 ghost use Rattle.script_lang.specs.Words.{ScriptValue};
 ghost use Rattle.spec_requests.specs.Words.{Frame, arguments, first_frame, frame_after_answer, request_of, set_each, steps_after, values_of, vars_ahead, with_both};

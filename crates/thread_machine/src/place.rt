@@ -1,3 +1,4 @@
+//! A place in a body: how it goes over blocks to the next command.
 ghost use Rattle.std.specs.Prelude.{◌≡◌, ◌<◌, ◌≤◌, ◌^◌, suc, length, drop, slice_get, Some};
 ghost use Rattle.line_forms.specs.declared.line.Kind.TheVariants.{Closing};
 ghost use Rattle.line_forms.specs.Words.{kind_of as kind_of_line};

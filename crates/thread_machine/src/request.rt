@@ -1,3 +1,4 @@
+//! The request of a command, with the values of its variables.
 ghost use Rattle.std.specs.Prelude.{◌≡◌, IfOk};
 ghost use Rattle.spec_requests.specs.Words.{request_at};
 ghost use Rattle.thread_machine.specs.Slots.{slot_value};

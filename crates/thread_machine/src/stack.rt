@@ -1,3 +1,4 @@
+//! The open blocks of a place.
 ghost use Rattle.std.specs.Prelude.{◌≡◌, ◌<◌, [], ◌∷◌, length, MatchOption};
 
 use arrayvec::ArrayVec;

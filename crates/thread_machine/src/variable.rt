@@ -1,3 +1,4 @@
+//! One variable, with room that is taken once.
 ghost use Rattle.std.specs.Prelude.{◌≡◌, ◌≤◌, length, IfOk, MatchOption, slice_get};
 ghost use Rattle.spec_requests.specs.Words.{greatest_data as greatest_data_of, with_both};
 ghost use Rattle.thread_machine.specs.Slots.{empty_slot, greatest_descriptors as greatest_descriptors_of, greatest_name as greatest_name_of, visible_value};

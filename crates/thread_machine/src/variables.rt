@@ -1,3 +1,4 @@
+//! The variables of a frame, and what an answer sets.
 ghost use Rattle.std.specs.Prelude.{◌≡◌, ◌+◌, ◌<◌, ◌≤◌, [], length, slice_get, Some, OnOk, IfOk, MatchOption, option_copied, position};
 ghost use Rattle.spec_requests.specs.Words.{Variables as Values, empty_value, set_each, set_variable, values_of, vars_of, with_both};
 ghost use Rattle.thread_machine.specs.Bodies.{IsSpelledLine};

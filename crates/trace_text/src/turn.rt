@@ -1,3 +1,4 @@
+//! Whose turn a line of a trace tells.
 ghost use Rattle.std.specs.Prelude.{◌≡◌, option_map, option_copied, MatchOption};
 ghost use Rattle.spec_requests.specs.Words.{NamesThread, second_word as second_word_of_line, thread_in_line as thread_of_line};
 
