@@ -12,7 +12,7 @@ pub mod LineFound
 pub mod LineAgain
 pub mod LineWritten
 pub mod KeywordWords
-pub mod LineLawsProved
+pub mod LawsProved
 pub mod PrintableLine
 pub mod OperandFailures
 pub mod LineFailures

@@ -10,7 +10,7 @@ use Rattle.line_reader.specs.Words.{Reader, Rest, declared_number, is_at_stop, i
 use Rattle.law_lines.proofs.DataWords.{items_again}
 use Rattle.law_lines.proofs.DescriptorWords.{number_reader-spelled, name_read-spelled}
 use Rattle.law_lines.proofs.KeywordWords.{keyword-again}
-use Rattle.law_lines.proofs.LineLawsProved.{not_empty, spelled-read_back}
+use Rattle.law_lines.proofs.LawsProved.{not_empty, spelled-read_back}
 use Rattle.line_forms.proofs.Numbering.{number_of_earlier, same_some}
 use Rattle.law_lines.proofs.PassWords.{at_least_one_again}
 use Rattle.law_lines.proofs.WordKinds.{AThread, word_again}
