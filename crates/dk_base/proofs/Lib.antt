@@ -1,3 +1,4 @@
+pub mod Fronts
 pub mod Moved
 pub mod NumbersWhere
 pub mod ThreadBits

@@ -1,6 +1,8 @@
 pub mod ByNumber
 pub mod Errno
+pub mod Input
 pub mod Memory
+pub mod Output
 pub mod Outside
 pub mod Spare
 pub mod Exact

@@ -3,10 +3,10 @@ use Rattle.std.specs.Prelude.{ℕ, ◌≡◌, List, Option, Result, Ok, Err, IfS
 use Rattle.std.specs.Io.KnownBytes.{Appends}
 use Rattle.dk_base.specs.Words.{Rose}
 use Rattle.line_forms.specs.declared.reason.Reason.TheVariants.{Size}
-use Rattle.whole_text.specs.declared.reading.ReadText.{ReadText}
-use Rattle.whole_text.specs.declared.reading.ReadText.TheVariants.{Whole, TooLong}
-use Rattle.whole_text.specs.Input.{text_within_limit, IsWithinLimit, LeavesNone, LeavesRest}
-use Rattle.whole_text.specs.Output.{AppendsFront}
+use Rattle.dk_base.specs.declared.reading.ReadText.{ReadText}
+use Rattle.dk_base.specs.declared.reading.ReadText.TheVariants.{Whole, TooLong}
+use Rattle.dk_base.specs.Input.{text_within_limit, IsWithinLimit, LeavesNone, LeavesRest}
+use Rattle.dk_base.specs.Output.{AppendsFront}
 use Rattle.history_check.specs.declared.verdict.Verdict.{Verdict}
 use Rattle.history_check.specs.declared.verdict.Verdict.TheVariants.{Bad}
 use Rattle.history_check.specs.Verdicts.{verdict}

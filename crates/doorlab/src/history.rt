@@ -2,7 +2,7 @@
 
 ghost use Rattle.std.specs.Prelude.{◌≡◌, ◌≢◌, IfErr, IfOk, IsErrOf};
 ghost use Rattle.dk_base.specs.Words.{Rose};
-ghost use Rattle.whole_text.specs.Input.{LeavesRest};
+ghost use Rattle.dk_base.specs.Input.{LeavesRest};
 ghost use Rattle.history_check.specs.declared.verdict.Verdict.{Verdict};
 ghost use Rattle.doorlab.specs.History.{Answered, HasText, IsAnswer, IsRead, IsReplyTo, IsWritten, IsWrittenOf, LeavesInput, LeavesOutput, verdict_of};
 ghost use Rattle.doorlab.specs.Status.{status_of_verdict};
@@ -11,12 +11,12 @@ use crate::status::Status;
 use dk_base::error::NoMemory;
 use dk_base::list::Bytes;
 use dk_base::outside::{Sink, Source};
+use dk_base::reading::{ReadText, ReadingFault, read_all};
+use dk_base::writing::write_all;
 use history_check::{Verdict, check, text_of_verdict};
 use line_forms::reason::Reason;
 use spec_histories::recorded::RecordsHistory;
 use std::alloc::Global;
-use whole_text::reading::{ReadText, ReadingFault, read_all};
-use whole_text::writing::write_all;
 
 /// The most bytes of a text. A million events of the longest lines have less.
 pub const HISTORY_LIMIT: usize = 1_099_511_627_776;

@@ -12,8 +12,8 @@ use Rattle.spec_scripts.proofs.RunTurns.{turns_of-run}
 use Rattle.spec_traces.specs.declared.verdict.Verdict.{Verdict}
 use Rattle.spec_traces.specs.declared.verdict.Verdict.TheVariants.{Legal, Differs}
 use Rattle.spec_traces.specs.Words.{AreParts, HasNoTrace, IsFirstDifference, IsLegal, script_part, trace_part, verdict, verdict_text}
-use Rattle.whole_text.specs.declared.reading.ReadText.{ReadText}
-use Rattle.whole_text.specs.declared.reading.ReadText.TheVariants.{Whole, TooLong}
+use Rattle.dk_base.specs.declared.reading.ReadText.{ReadText}
+use Rattle.dk_base.specs.declared.reading.ReadText.TheVariants.{Whole, TooLong}
 use Rattle.doors_top.specs.declared.script_in.TheConstants.{SCRIPT_LIMIT}
 use Rattle.doors_top.specs.declared.status.Status.{Status}
 use Rattle.doors_top.specs.declared.status.Status.TheVariants.{Complete, Illegal, Script}

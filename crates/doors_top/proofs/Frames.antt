@@ -1,6 +1,6 @@
 -- What was made of what was read, and is written.
 use Rattle.std.proofs.Common.{◌≡◌, ℕ, List, Option, Result, Ok, Err, IfOk, refl, subst}
-use Rattle.whole_text.specs.declared.reading.ReadText.{ReadText}
+use Rattle.dk_base.specs.declared.reading.ReadText.{ReadText}
 use Rattle.doors_top.specs.declared.reply.Reply.{Reply}
 use Rattle.doors_top.specs.declared.status.Status.{Status}
 use Rattle.doors_top.specs.Outcomes.{Outcome, outcome_with}

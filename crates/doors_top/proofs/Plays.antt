@@ -6,7 +6,7 @@ use Rattle.script_lang.specs.Words.{ScriptValue}
 use Rattle.spec_requests.specs.Words.{refused_text}
 use Rattle.spec_scripts.specs.Words.{History, IsRefusedPlay, IsWholePlay, Refusal, ending_of, refusal, text_of_history, threads_of_events, turns_before, turns_of_play}
 use Rattle.sys_run.specs.Words.{IsBefore, IsPlay, LawsOf, SysValue, history, refusal_at}
-use Rattle.whole_text.specs.declared.reading.ReadText.{ReadText}
+use Rattle.dk_base.specs.declared.reading.ReadText.{ReadText}
 use Rattle.doors_top.specs.declared.status.Status.{Status}
 use Rattle.doors_top.specs.declared.status.Status.TheVariants.{Script}
 use Rattle.doors_top.specs.Outcomes.{outcome_of_bad, outcome_of_played, outcome_of_turns, outcome_with, script_of_input}

@@ -5,9 +5,9 @@ use Rattle.std.proofs.lemmas.Bool.Decides.{nat_tests}
 use Rattle.script_lang.specs.Words.{ScriptValue, canonical_text, parse_result}
 use Rattle.spec_scripts.specs.Words.{History, ending_of, refusal, run, text_of_history, turns_of_play}
 use Rattle.spec_traces.specs.Words.{scheduled}
-use Rattle.whole_text.specs.declared.reading.ReadText.TheVariants.{Whole, TooLong}
+use Rattle.dk_base.specs.declared.reading.ReadText.TheVariants.{Whole, TooLong}
 use Rattle.doors_top.specs.declared.script_in.TheConstants.{SCRIPT_LIMIT}
-use Rattle.whole_text.specs.Input.{text_within_limit}
+use Rattle.dk_base.specs.Input.{text_within_limit}
 use Rattle.doors_top.specs.Outcomes.{outcome_of_play, outcome_of_played, outcome_of_turns, outcome_with}
 use Rattle.doors_top.specs.Status.{status_of_ending}
 

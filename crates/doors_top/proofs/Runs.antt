@@ -9,8 +9,8 @@ use Rattle.spec_scripts.specs.Words.{IsAllowed, ending_of, is_over, text_of_hist
 use Rattle.spec_scripts.specs.ScriptRuns.{thread_of_event}
 use Rattle.spec_traces.specs.Words.{IsFrontOf, IsFrontOfRun, IsTrace, turns_in}
 use Rattle.sys_run.specs.Words.{LawsOf, SysValue, history}
-use Rattle.whole_text.specs.declared.reading.ReadText.{ReadText}
-use Rattle.whole_text.specs.declared.reading.ReadText.TheVariants.{Whole, TooLong}
+use Rattle.dk_base.specs.declared.reading.ReadText.{ReadText}
+use Rattle.dk_base.specs.declared.reading.ReadText.TheVariants.{Whole, TooLong}
 use Rattle.doors_top.specs.Input.{IsSpelled}
 use Rattle.doors_top.specs.declared.status.Status.{Status}
 use Rattle.doors_top.specs.declared.status.Status.TheVariants.{Script}

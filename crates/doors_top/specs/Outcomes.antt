@@ -4,10 +4,10 @@ use Rattle.std.specs.Borrow.{Bor}
 use Rattle.spec_kernel.specs.Types.{Tid}
 use Rattle.doors_top.specs.declared.status.Status.{Status}
 use Rattle.doors_top.specs.declared.status.Status.TheVariants as status
-use Rattle.whole_text.specs.declared.reading.ReadText.{ReadText}
-use Rattle.whole_text.specs.declared.reading.ReadText.TheVariants.{Whole, TooLong}
+use Rattle.dk_base.specs.declared.reading.ReadText.{ReadText}
+use Rattle.dk_base.specs.declared.reading.ReadText.TheVariants.{Whole, TooLong}
 use Rattle.doors_top.specs.declared.script_in.TheConstants.{SCRIPT_LIMIT}
-use Rattle.whole_text.specs.Input.{text_within_limit}
+use Rattle.dk_base.specs.Input.{text_within_limit}
 use Rattle.doors_top.specs.Status.{status_of_ending, status_of_verdict}
 use Rattle.line_forms.specs.declared.reason.Reason.TheVariants.{Size, Trace}
 use Rattle.spec_requests.specs.Types.{Bad}

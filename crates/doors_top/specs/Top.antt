@@ -4,13 +4,13 @@ use Rattle.std.specs.Io.KnownBytes.{Appends}
 use Rattle.doors_top.specs.declared.status.Status.{Status}
 use Rattle.doors_top.specs.declared.status.Status.TheVariants as status
 use Rattle.doors_top.specs.declared.status.Status.TheVariants.{Complete, Illegal}
-use Rattle.whole_text.specs.declared.reading.ReadText.{ReadText}
-use Rattle.whole_text.specs.declared.reading.ReadText.TheVariants.{Whole, TooLong}
+use Rattle.dk_base.specs.declared.reading.ReadText.{ReadText}
+use Rattle.dk_base.specs.declared.reading.ReadText.TheVariants.{Whole, TooLong}
 use Rattle.doors_top.specs.declared.reply.Reply.{Reply}
 use Rattle.doors_top.specs.declared.script_in.TheConstants.{CHECK_LIMIT, SCRIPT_LIMIT}
 use Rattle.doors_top.specs.Outcomes.{IsLoad, IsNoCommand, Outcome, is_check, is_play, is_reader, is_run, is_show, outcome_of_bad, outcome_of_check, outcome_of_load, outcome_of_play, outcome_of_run, outcome_of_show, outcome_with, script_of_input, script_of_part, usage}
-use Rattle.whole_text.specs.Input.{text_within_limit, IsWithinLimit, LeavesNone, LeavesRest}
-use Rattle.whole_text.specs.Output.{AppendsFront}
+use Rattle.dk_base.specs.Input.{text_within_limit, IsWithinLimit, LeavesNone, LeavesRest}
+use Rattle.dk_base.specs.Output.{AppendsFront}
 use Rattle.dk_base.specs.Words.{Rose}
 use Rattle.law_runs.specs.Words.{Laws}
 use Rattle.load_gen.specs.Words.{load_script, load_text}

@@ -4,7 +4,7 @@ ghost use Rattle.line_text.specs.Words.{lines_of};
 ghost use Rattle.spec_traces.specs.Words.{verdict};
 ghost use Rattle.doors_top.specs.declared.script_in.TheConstants.{SCRIPT_LIMIT};
 ghost use Rattle.doors_top.specs.Outcomes.{outcome_of_check, outcome_of_parts, outcome_of_trace, outcome_of_verdict, outcome_with};
-ghost use Rattle.whole_text.specs.declared.reading.ReadText.{ReadText};
+ghost use Rattle.dk_base.specs.declared.reading.ReadText.{ReadText};
 ghost use Rattle.doors_top.specs.Status.{status_of_verdict};
 ghost use Rattle.doors_top.specs.Top.{IsAnswer, IsChecked};
 
@@ -12,6 +12,7 @@ use crate::reply::{Reply, reply_for_bad};
 use crate::script_in::{SCRIPT_LIMIT, script_of_text, too_long};
 use crate::status::Status;
 use dk_base::error::NoMemory;
+use dk_base::reading::ReadText;
 use line_forms::reason::Reason;
 use line_text::lines::next_line;
 use script_lang::bad::Bad;
@@ -19,7 +20,6 @@ use script_lang::script::Script;
 use spec_traces::verdict::Verdict;
 use std::alloc::Global;
 use trace_check::{parts, text_of_verdict};
-use whole_text::reading::ReadText;
 
 fn status_of(found: &Verdict) -> Status
     ensures value { result ≡ status_of_verdict found.now }

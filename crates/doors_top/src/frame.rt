@@ -1,7 +1,7 @@
 //! What the commands have in common: an input is read, and what was made is written.
 ghost use Rattle.std.specs.Prelude.{◌≡◌, ◌≢◌, IfOk, IsErrOf, IfErr};
 ghost use Rattle.dk_base.specs.Words.{Rose};
-ghost use Rattle.whole_text.specs.Input.{LeavesRest};
+ghost use Rattle.dk_base.specs.Input.{LeavesRest};
 ghost use Rattle.doors_top.specs.Outcomes.{outcome_with};
 ghost use Rattle.doors_top.specs.Top.{HasText, IsAnswer, IsRead, IsWritten, IsWrittenOf, LeavesOutput};
 
@@ -9,9 +9,9 @@ use crate::reply::Reply;
 use crate::status::Status;
 use dk_base::error::NoMemory;
 use dk_base::outside::{Sink, Source};
+use dk_base::reading::{ReadText, ReadingFault, read_all};
+use dk_base::writing::write_all;
 use std::alloc::Global;
-use whole_text::reading::{ReadText, ReadingFault, read_all};
-use whole_text::writing::write_all;
 
 /// Reads an input. Where memory lacks or a read fails, the status of the command is that.
 pub(crate) fn read_input<S: Source>(

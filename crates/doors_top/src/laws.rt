@@ -5,7 +5,7 @@ ghost use Rattle.script_lang.specs.Words.{ScriptValue, canonical_text, spells};
 ghost use Rattle.spec_scripts.specs.Words.{IsAllowed, ending_of, is_over, run, text_of_history};
 ghost use Rattle.spec_traces.specs.Words.{scheduled};
 ghost use Rattle.doors_top.specs.declared.script_in.TheConstants.{SCRIPT_LIMIT};
-ghost use Rattle.whole_text.specs.Input.{text_within_limit};
+ghost use Rattle.dk_base.specs.Input.{text_within_limit};
 ghost use Rattle.doors_top.specs.Outcomes.{outcome_of_play, outcome_with};
 ghost use Rattle.doors_top.specs.Status.{status_of_ending};
 

@@ -4,7 +4,7 @@ ghost use Rattle.spec_requests.specs.Words.{lines_text, refused_text};
 ghost use Rattle.spec_scripts.specs.Words.{ending_of, refusal, text_of_history};
 ghost use Rattle.sys_run.specs.Words.{EndsPlay, LawsOf, history};
 ghost use Rattle.doors_top.specs.declared.script_in.TheConstants.{SCRIPT_LIMIT};
-ghost use Rattle.whole_text.specs.Input.{IsWithinLimit};
+ghost use Rattle.dk_base.specs.Input.{IsWithinLimit};
 ghost use Rattle.doors_top.specs.Outcomes.{outcome_of_turns, outcome_with};
 ghost use Rattle.doors_top.specs.Status.{status_of_ending};
 ghost use Rattle.doors_top.specs.Top.{IsAnswer, IsPlayed, LawsOfScript};
@@ -14,12 +14,12 @@ use crate::script_in::script_in;
 use crate::status::Status;
 use dk_base::error::NoMemory;
 use dk_base::number::Tid;
+use dk_base::reading::ReadText;
 use script_lang::script::Script;
 use std::alloc::Global;
 use sys_run::playing::{Playing, Told};
 use sys_run::sys::Played;
 use trace_text::RunText;
-use whole_text::reading::ReadText;
 
 /// What was told of a run: the lines of its events, and how it ended.
 #[derive(Drop)]

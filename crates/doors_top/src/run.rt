@@ -6,7 +6,7 @@ ghost use Rattle.sys_run.specs.Words.{LawsOf, history};
 ghost use Rattle.doors_top.specs.declared.script_in.TheConstants.{SCRIPT_LIMIT};
 ghost use Rattle.doors_top.specs.Outcomes.{outcome_with};
 ghost use Rattle.doors_top.specs.Input.{IsSpelled};
-ghost use Rattle.whole_text.specs.Input.{IsWithinLimit};
+ghost use Rattle.dk_base.specs.Input.{IsWithinLimit};
 ghost use Rattle.doors_top.specs.Status.{status_of_ending};
 ghost use Rattle.doors_top.specs.Top.{IsAnswer, IsOfSomeRun, IsRan};
 
@@ -15,6 +15,7 @@ use crate::script_in::script_in;
 use crate::status::Status;
 use dk_base::error::NoMemory;
 use dk_base::outside::Gate;
+use dk_base::reading::ReadText;
 use kernel_lock::run::{Ran, run_threads};
 use script_lang::script::Script;
 use std::alloc::Global;
@@ -22,7 +23,6 @@ use std::sync::Wait;
 use std::thread::Threads;
 use sys_run::sys::Sys;
 use trace_text::text_with_tail;
-use whole_text::reading::ReadText;
 
 /// The text of a run that is over, with the line `tail N` after it.
 fn reply_with_tail(alloc: Global, sys: &Sys, tail: u64) -> Result<Reply, NoMemory>

@@ -2,18 +2,18 @@
 ghost use Rattle.std.specs.Prelude.{◌≡◌, ◌≤◌, length, IfOk};
 ghost use Rattle.script_lang.specs.Words.{bad_line, parse_result};
 ghost use Rattle.doors_top.specs.Outcomes.{script_of_input};
-ghost use Rattle.whole_text.specs.Input.{IsWithinLimit};
+ghost use Rattle.dk_base.specs.Input.{IsWithinLimit};
 ghost use Rattle.doors_top.specs.declared.script_in.TheConstants.{SCRIPT_LIMIT};
 ghost use Rattle.doors_top.specs.Top.{IsDecidedText};
 
 use dk_base::error::NoMemory;
+use dk_base::reading::ReadText;
 use line_forms::reason::Reason;
 use script_lang::bad::{Bad, ParseFault};
 use script_lang::laws;
 use script_lang::parse::parse;
 use script_lang::script::Script;
 use std::alloc::Global;
-use whole_text::reading::ReadText;
 
 /// The most bytes of a script. Definitions cite this constant too.
 pub const SCRIPT_LIMIT: usize = 1_048_576;

@@ -1,7 +1,7 @@
 //! What `show` answers and writes for what was read.
 ghost use Rattle.std.specs.Prelude.{IfOk};
 ghost use Rattle.doors_top.specs.declared.script_in.TheConstants.{SCRIPT_LIMIT};
-ghost use Rattle.whole_text.specs.Input.{IsWithinLimit};
+ghost use Rattle.dk_base.specs.Input.{IsWithinLimit};
 ghost use Rattle.doors_top.specs.Outcomes.{outcome_with};
 ghost use Rattle.doors_top.specs.Top.{IsAnswer, IsShown};
 
@@ -9,9 +9,9 @@ use crate::reply::{Reply, reply_for_bad};
 use crate::script_in::script_in;
 use crate::status::Status;
 use dk_base::error::NoMemory;
+use dk_base::reading::ReadText;
 use script_lang::print::print;
 use std::alloc::Global;
-use whole_text::reading::ReadText;
 
 /// What `show` answers and writes: the canonical text of the script, or what is bad of it.
 pub fn show(alloc: Global, read: &ReadText) -> Result<Reply, NoMemory>

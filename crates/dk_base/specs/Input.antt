@@ -1,8 +1,8 @@
 -- What comes of reading all that a source has, up to a limit.
 use Rattle.std.specs.Prelude.{◌≡◌, ℕ, ◌≤◌, nat_le, if◌then◌else◌, ⊤, List, [], length, Option, Some}
 use Rattle.std.specs.Io.KnownBytes.{Consumes}
-use Rattle.whole_text.specs.declared.reading.ReadText.{ReadText}
-use Rattle.whole_text.specs.declared.reading.ReadText.TheVariants.{Whole, TooLong}
+use Rattle.dk_base.specs.declared.reading.ReadText.{ReadText}
+use Rattle.dk_base.specs.declared.reading.ReadText.TheVariants.{Whole, TooLong}
 
 abbrev pub text_within_limit : List ℕ → ℕ → ReadText
 text_within_limit bytes limit = if nat_le (length bytes) limit then Whole bytes else TooLong

@@ -1,6 +1,6 @@
 use Rattle.std.proofs.Common.{◌+◌, ◌-◌, ◌≤◌, length}
 use Rattle.std.specs.Io.KnownBytes.{Consumes}
-use Rattle.whole_text.proofs.reading.read_all.Given as goal
+use Rattle.dk_base.proofs.reading.read_all.Given as goal
 
 -- what was left is what is held now, followed by what is left
 abbrev pub invariant-loop-chunk : goal.invariant-loop-chunk

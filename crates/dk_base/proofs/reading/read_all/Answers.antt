@@ -1,6 +1,6 @@
 use Rattle.std.proofs.Common.{◌++◌, take}
 use Rattle.std.proofs.KnownBytes.{Consumes-trans}
-use Rattle.whole_text.proofs.reading.read_all.Goals as goal
+use Rattle.dk_base.proofs.reading.read_all.Goals as goal
 
 -- the last read gave bytes that could not be kept
 pub returns-in_err-append-clause-rest : goal.returns-in_err-append-clause-rest

@@ -1,6 +1,6 @@
 use Rattle.std.proofs.Common.{◌-◌, ◌≤◌, length, take}
 use Rattle.std.specs.Io.KnownBytes.{Appends}
-use Rattle.whole_text.proofs.writing.write_all.Given as goal
+use Rattle.dk_base.proofs.writing.write_all.Given as goal
 
 -- what is held grew by the front of the text
 abbrev pub invariant-loop-at : goal.invariant-loop-at

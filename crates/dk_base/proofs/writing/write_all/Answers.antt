@@ -1,6 +1,6 @@
 use Rattle.std.proofs.Common.{arith}
-use Rattle.whole_text.proofs.Fronts.{Appends-front}
-use Rattle.whole_text.proofs.writing.write_all.Goals as goal
+use Rattle.dk_base.proofs.Fronts.{Appends-front}
+use Rattle.dk_base.proofs.writing.write_all.Goals as goal
 
 pub loop-at-preserved : goal.loop-at-preserved
 loop-at-preserved g c = (

@@ -1,11 +1,11 @@
 //! Reading all that a source has, up to a limit.
 ghost use Rattle.std.specs.Prelude.{◌≡◌, ◌≤◌, ◌++◌, IfSome, IfOk, OnOk, OnErr, IsErrOf};
-ghost use Rattle.dk_base.specs.Words.{Rose};
-ghost use Rattle.whole_text.specs.Input.{text_within_limit, IsWithinLimit, LeavesNone, LeavesRest};
+ghost use Rattle.dk_base.specs.Outside.{Rose};
+ghost use Rattle.dk_base.specs.Input.{text_within_limit, IsWithinLimit, LeavesNone, LeavesRest};
 
-use dk_base::error::{Failed, NoMemory};
-use dk_base::list::Bytes;
-use dk_base::outside::Source;
+use crate::error::{Failed, NoMemory};
+use crate::list::Bytes;
+use crate::outside::Source;
 use std::alloc::Global;
 use thiserror::Error;
 
@@ -30,7 +30,7 @@ pub enum ReadingFault {
 }
 
 impl From<NoMemory> for ReadingFault {
-    ghost use Rattle.whole_text.specs.declared.reading.ReadingFault.TheVariants.{Memory};
+    ghost use Rattle.dk_base.specs.declared.reading.ReadingFault.TheVariants.{Memory};
 
     ghost from_gives = { λ _ fault. fault ≡ Memory };
 
@@ -40,7 +40,7 @@ impl From<NoMemory> for ReadingFault {
 }
 
 impl From<Failed> for ReadingFault {
-    ghost use Rattle.whole_text.specs.declared.reading.ReadingFault.TheVariants.{Failed};
+    ghost use Rattle.dk_base.specs.declared.reading.ReadingFault.TheVariants.{Failed};
 
     ghost from_gives = { λ _ fault. fault ≡ Failed };
 

@@ -1,11 +1,11 @@
 //! Writing a whole text.
 ghost use Rattle.std.specs.Prelude.{◌≤◌, OnOk, OnErr};
 ghost use Rattle.std.specs.Io.KnownBytes.{Appends};
-ghost use Rattle.dk_base.specs.Words.{Rose};
-ghost use Rattle.whole_text.specs.Output.{AppendsFront};
+ghost use Rattle.dk_base.specs.Outside.{Rose};
+ghost use Rattle.dk_base.specs.Output.{AppendsFront};
 
-use dk_base::error::Failed;
-use dk_base::outside::Sink;
+use crate::error::Failed;
+use crate::outside::Sink;
 
 /// Hands the sink all that is left of the text until nothing is left. A fault leaves the front of the text written.
 pub fn write_all<O: Sink>(sink: &mut O, text: &[u8]) -> Result<(), Failed>
