@@ -152,8 +152,8 @@ put bin 755 "$doors" "$doorlab" c/out/doord c/out/doorwait
 put lib 755 c/out/libdoor.so.1
 ln -s libdoor.so.1 "$tree/lib/libdoor.so"
 put_tracked c/include include/weldozig
-put share/man/man1 644 docs/*.1
-put share/man/man5 644 docs/*.5
+put share/man/man1 644 docs/man/*.1
+put share/man/man5 644 docs/man/*.5
 put share/bash-completion/completions 644 completions/*
 put_tracked tools share/weldozig/tools
 put_tracked examples share/doc/weldozig/examples/scripts
@@ -194,7 +194,7 @@ tell_proved() {
     cat <<'END'
 
 Proved, where so said: that the traces of doors and the verdicts of doorlab are those of the written kernel, and that the kernel in doord
-does what the written kernel says; clause by clause in docs/PROVED.md of that commit.
+does what the written kernel says; clause by clause in docs/inside/PROVED.md of that commit.
 
 Not proved, in any case: the C. That is doord but for the kernel in it, doorwait, libdoor.so.1 and the headers. They are tested only. What
 they did stands in the history, which doorlab judges. The tools, the completions and the examples are not proved either.
@@ -224,7 +224,7 @@ In examples/c/nscd and examples/c/authd: make OUT=FOLDER DOORS="$(pkg-config --c
 
 `chart`, `again` and `hunt` are in PREFIX/share/weldozig/tools. The pages: doors(1), doorlab(1), doord(1), doors-tools(1), doors-script(5),
 history(5). Words for bash: `. PREFIX/share/bash-completion/completions/doord`, where they are not loaded already. Pages that
-these and the examples speak of, as docs/C_PROGRAMS.md, are in the clone.
+these and the examples speak of, as docs/use/C_PROGRAMS.md, are in the clone.
 END
 }
 

@@ -107,7 +107,7 @@ told() {
 }
 if is "a copy that is a clone" "" "$(commit)"; then
     is "what the gate built is called so" "3 , as .ci/run left it" "$(told)"
-    echo >>"$copy/docs/PROVED.md"
+    echo >>"$copy/docs/inside/PROVED.md"
     is "a file was changed since" "3 , as .ci/run left it
 1 NOT THAT COMMIT ALONE" "$(told)"
     in_copy git checkout -q docs
@@ -163,7 +163,7 @@ use() {
     rm -rf "$work/run"
     mkdir "$work/run"
     is "$name: the headers" "$(cd c/include && find . -type f | sort)" "$(cd "$prefix/include/weldozig" && find . -type f | sort)"
-    is "$name: the pages" "$(pages docs)" "$(pages "$prefix/share/man")"
+    is "$name: the pages" "$(pages docs/man)" "$(pages "$prefix/share/man")"
     is "$name: the examples" "$(git ls-files examples c/examples | wc -l)" "$(find "$doc/examples" -type f | wc -l)"
     is "$name: a script" "$(cat examples/first.trace)" "$(saying "$prefix" "doors play <$doc/examples/scripts/first.doors")"
     is "$name: a chart" "$(tools/chart examples/first.doors examples/first.trace)" \
@@ -215,7 +215,7 @@ page() {
     awk 'NF { print $1; exit }' "$work/page"
 }
 if command -v groff >/dev/null || has man "the pages are not looked at, as there is no groff either"; then
-    for it in docs/*.[15]; do is "$it" "$(basename "$it" | sed 's/\.\(.\)$/(\1)/' | tr '[:lower:]' '[:upper:]')" "$(page "$it")"; done
+    for it in docs/man/*.[15]; do is "$it" "$(basename "$it" | sed 's/\.\(.\)$/(\1)/' | tr '[:lower:]' '[:upper:]')" "$(page "$it")"; done
 fi
 
 # the completions

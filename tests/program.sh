@@ -15,7 +15,7 @@
 # looks whether the wrong bodies of tests/edits still fit the code.
 
 # Each page has at least one script.
-pages="README.md docs/TUTORIAL.md docs/VERSION_2.md docs/VERSION_3.md docs/VERSION_4.md docs/FROM_C.md docs/RECIPES.md"
+pages="README.md docs/use/TUTORIAL.md docs/use/VERSION_2.md docs/use/VERSION_3.md docs/use/VERSION_4.md docs/use/FROM_C.md docs/use/RECIPES.md"
 
 LC_ALL=C
 export LC_ALL
@@ -560,7 +560,7 @@ rows() {
 # The manual pages, where the system has mandoc: its lint has nothing to say of them.
 manuals() {
     if ! command -v mandoc >"$work/mandoc"; then return; fi
-    for manual in docs/*.[15]; do
+    for manual in docs/man/*.[15]; do
         mandoc -T lint "$manual" >"$work/lint" 2>&1
         if [ -s "$work/lint" ]; then fail "$manual" "$(head -n 1 "$work/lint")"; else pass; fi
     done
@@ -802,7 +802,7 @@ for program in "$@"; do
     examples
     changed_traces
     for page in $pages; do page "$page"; done
-    rows docs/TUTORIAL.md
+    rows docs/use/TUTORIAL.md
     runs
     many_runs
     leaving_runs

@@ -484,7 +484,7 @@ drawn_in() {
 
 # The charts in the pages; the first page has one.
 pictures() {
-    for page in README.md docs/*.md; do
+    for page in README.md docs/*/*.md; do
         to=$work/drawn/$(basename "$page")
         mkdir -p "$to"
         drawn_in "$page" "$to" >"$to/list"

@@ -23,26 +23,26 @@ case_headers() {
     status=
 }
 
-# The daemon of docs/FROM_C.md compiles, but for arguments that it does not use, and runs where its paths may be made.
+# The daemon of docs/use/FROM_C.md compiles, but for arguments that it does not use, and runs where its paths may be made.
 case_from_c() {
-    awk '/^```c$/ { in_block = 1; next } /^```$/ { in_block = 0 } in_block' docs/FROM_C.md >"$work/from_c.c"
-    grep -q door_create "$work/from_c.c" || wrong "docs/FROM_C.md" "a block of C" "none"
+    awk '/^```c$/ { in_block = 1; next } /^```$/ { in_block = 0 } in_block' docs/use/FROM_C.md >"$work/from_c.c"
+    grep -q door_create "$work/from_c.c" || wrong "docs/use/FROM_C.md" "a block of C" "none"
     for compiler in gcc clang; do
         command -v $compiler >/dev/null || continue
         $compiler -std=gnu11 -Wall -Wextra -Wpedantic -Wno-unused-parameter -Werror -c -o "$work/object" -Ic/include "$work/from_c.c" >"$work/err" 2>&1 ||
             wrong "$compiler" "no message" "$(cat "$work/err")"
     done
     sed 's|"/var/run/|"|' "$work/from_c.c" >"$work/from_c_here.c"
-    $cc -std=gnu11 -o "$bin/from_c" -Ic/include "$work/from_c_here.c" -L"$out" -ldoor -pthread || wrong "docs/FROM_C.md" "a program" "none"
+    $cc -std=gnu11 -o "$bin/from_c" -Ic/include "$work/from_c_here.c" -L"$out" -ldoor -pthread || wrong "docs/use/FROM_C.md" "a program" "none"
     run 'up from_c; pid=$!; doorwait named; doorwait named_admin; lookup named root; ask -k go named www & seen "return .entry of www"
         named_admin named_admin; touch go; wait $pid; echo "status $?"'
     gives_sorted 'root entry of root' 'www: entry of www' 'no new clients' 'status 0'
 }
 
-# The blocks of commands of docs/C_PROGRAMS.md, one after the other, as at the top of a clone.
+# The blocks of commands of docs/use/C_PROGRAMS.md, one after the other, as at the top of a clone.
 case_page() {
     fresh
-    awk -v to="$work/block" '/^```sh$/ { n++; in_block = 1; next } /^```$/ { in_block = 0 } in_block { print >(to n) }' docs/C_PROGRAMS.md
+    awk -v to="$work/block" '/^```sh$/ { n++; in_block = 1; next } /^```$/ { in_block = 0 } in_block { print >(to n) }' docs/use/C_PROGRAMS.md
     mkdir -p "$work/d/crates/doorlab/out" "$work/d/tools"
     ln -s "$top/c" "$work/d/c"
     ln -s "$DOORLAB" "$work/d/crates/doorlab/out/doorlab"
