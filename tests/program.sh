@@ -11,8 +11,8 @@
 # finds legal and that `play` makes again from its turns, and NAME.status has each status that may come. Every script of the
 # other commands and of the pages is run so too.
 #
-# tests/tools.sh, which this calls, tests the tools beside the program, and tests/tools has its charts. tests/edits.sh, which this calls too,
-# looks whether the wrong bodies of tests/edits still fit the code.
+# tests/tools.sh, which this calls, tests the tools beside the program, and tests/tools has its charts; tests/pages.sh tests the pages as
+# texts. tests/edits.sh, which this calls too, looks whether the wrong bodies of tests/edits still fit the code.
 
 # Each page has at least one script.
 pages="README.md docs/use/TUTORIAL.md docs/use/VERSION_2.md docs/use/VERSION_3.md docs/use/VERSION_4.md docs/use/FROM_C.md docs/use/RECIPES.md"
@@ -566,6 +566,25 @@ manuals() {
     done
 }
 
+# The commands of the first page that need no more than the program, as at the top of a clone that has it on the PATH.
+first_page() {
+    to=$work/first
+    mkdir -p "$to/bin"
+    ln -sf "$top/examples" "$top/tools" "$to"
+    ln -sf "$program" "$to/bin/doors"
+    grep -E '^    (doors|tools/|\{) ?' README.md >"$to/commands"
+    (cd "$to" && rm -f first-* && PATH=$to/bin:$PATH DOORS=$program sh -e ./commands) >"$work/out" 2>"$work/err"
+    found=$?
+    head -n "$(wc -l <examples/first.trace)" "$work/out" >"$work/played"
+    if [ $found -ne 0 ] || [ "$(wc -l <"$to/commands")" -lt 4 ]; then
+        fail "README.md" "its commands end with status $found: $(head -n 1 "$work/err")"
+    elif ! cmp -s "$work/played" examples/first.trace || [ "$(tail -n 1 "$work/out")" != "legal 10" ] || [ ! -s "$to/first-1.trace" ]; then
+        fail "README.md" "its commands give something else: $(tail -n 1 "$work/out")"
+    else
+        pass
+    fi
+}
+
 # told TEXT WORD..: such words are no command, and this is what the error stream says of them.
 told() {
     printf '    %s\n' "$1" >"$work/below"
@@ -771,18 +790,18 @@ every_status() {
     done
 }
 
-# The tools beside the program, whose own test counts for itself; with the first of the programs.
-tools() {
-    sh tests/tools.sh "$1" >"$work/tools"
-    sed '$d' "$work/tools"
-    counts=$(tail -n 1 "$work/tools")
+# counted TEST WORD..: a test that counts for itself.
+counted() {
+    sh "$@" >"$work/counted"
+    sed '$d' "$work/counted"
+    counts=$(tail -n 1 "$work/counted")
     case $counts in
     *[0-9]" passed, "[0-9]*" failed")
         passed=$((passed + ${counts%% passed*}))
         counts=${counts#* passed, }
         failed=$((failed + ${counts% failed}))
         ;;
-    *) fail "tests/tools.sh" "its last line is '$counts'" ;;
+    *) fail "$1" "its last line is '$counts'" ;;
     esac
 }
 
@@ -803,6 +822,7 @@ for program in "$@"; do
     changed_traces
     for page in $pages; do page "$page"; done
     rows docs/use/TUTORIAL.md
+    first_page
     runs
     many_runs
     leaving_runs
@@ -822,7 +842,8 @@ for program in "$@"; do
     every_status
     manuals
 done
-if [ -x "$1" ]; then tools "$1"; fi
+# the tools beside the program, with the first of the programs
+if [ -x "$1" ]; then counted tests/tools.sh "$1"; fi
 if sh tests/edits.sh; then pass; else fail "tests/edits.sh" "a wrong body does not fit the code"; fi
 echo "$cases cases of $(ls -d tests/play tests/run tests/show tests/check | tr '\n' ' ')with $# programs"
 echo "$passed passed, $failed failed"

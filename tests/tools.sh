@@ -482,13 +482,13 @@ drawn_in() {
         file != "" { print >file }' "$1"
 }
 
-# The charts in the pages; the first page has one.
+# The charts in the pages; the tutorial has some.
 pictures() {
     for page in README.md docs/*/*.md; do
         to=$work/drawn/$(basename "$page")
         mkdir -p "$to"
         drawn_in "$page" "$to" >"$to/list"
-        if [ "$page" = README.md ] && [ ! -s "$to/list" ]; then fail "$page" "no chart there"; fi
+        if [ "$page" = docs/use/TUTORIAL.md ] && [ ! -s "$to/list" ]; then fail "$page" "no chart there"; fi
         while read -r number options; do
             pair=$to/${number%.*}
             tool chart $options "$pair.doors" "$pair.trace"

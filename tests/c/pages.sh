@@ -39,15 +39,16 @@ case_from_c() {
     gives_sorted 'root entry of root' 'www: entry of www' 'no new clients' 'status 0'
 }
 
-# The blocks of commands of docs/use/C_PROGRAMS.md, one after the other, as at the top of a clone.
+# The commands of the first page, and the blocks of docs/use/C_PROGRAMS.md, one after the other, as at the top of a clone.
 case_page() {
     fresh
     awk -v to="$work/block" '/^```sh$/ { n++; in_block = 1; next } /^```$/ { in_block = 0 } in_block { print >(to n) }' docs/use/C_PROGRAMS.md
+    sed -n '/^## A program in C/,/^## A lib/s/^    //p' README.md >"$work/block0"
     mkdir -p "$work/d/crates/doorlab/out" "$work/d/tools"
     ln -s "$top/c" "$work/d/c"
     ln -s "$DOORLAB" "$work/d/crates/doorlab/out/doorlab"
     ln -s "$(command -v $cc)" "$work/d/tools/cc"
-    for block in 1 2 3; do
+    for block in 0 1 2 3; do
         (
             cd "$work/d" || exit 1
             PATH=$work/d/tools:$PATH
@@ -56,8 +57,10 @@ case_page() {
             exec $most sh "$work/block$block"
         ) >"$work/page$block" 2>&1 </dev/null
     done
-    tail -n 2 "$work/page1" | sed 's/^legal [0-9]*$/legal N/' >"$work/out"
-    gives 'result: 81' 'legal N'
+    for block in 0 1; do
+        tail -n 2 "$work/page$block" | sed 's/^legal [0-9]*$/legal N/' >"$work/out"
+        gives 'result: 81' 'legal N'
+    done
     sed 's/^illegal line [0-9]*$/illegal line N/; s/^\([a-z]*\) .* = ok "\(.\).*/\1 \2/' "$work/page2" >"$work/out"
     gives 'illegal line N' 'want Q' 'have R'
     grep -q '^legal [0-9]*$' "$work/page3" || wrong "the third block" "legal N" "$(cat "$work/page3")"
