@@ -136,6 +136,7 @@ enum at {
 struct ask;
 struct service;
 struct stand_in;
+struct given;
 
 struct thread {
 	volatile int at;
@@ -158,6 +159,8 @@ struct thread {
 	bool is_cancel_disabled;
 	bool is_borrower;          /* the wait of another thread was lent to it (libdoor_lend.c) */
 	bool has_given_back;       /* and is that thread's again */
+	struct given *given;       /* what it was given and does not have yet (libdoor_given.c); NULL for nothing */
+	struct given *spare;       /* memory for the next */
 };
 
 extern __thread struct thread thread __attribute__((tls_model("initial-exec")));
@@ -176,6 +179,7 @@ void give_slot_back(uint32_t index);
 void have_slot(uint32_t index);
 void forget_threads(void);
 bool is_in_handler(void);
+bool is_frame_left(uintptr_t frame);
 bool is_program_there(void);
 bool is_on_stack_of_handlers(uintptr_t address);
 bool is_in_program(void);
@@ -198,9 +202,18 @@ struct ask {
 	uint64_t c, d, e;
 };
 
+struct came {
+	unsigned count;
+	struct wire_passed passed[WIRE_PASSED];
+	int fd[WIRE_PASSED]; /* of the program: files, and the stand-ins that are made; else -1 */
+	bool is_beside; /* the bytes came as a file: */
+	int beside;     /* that is -1 where this process had no room for it */
+	bool is_noted;  /* in memory of the thread (libdoor_given.c) */
+};
+
 struct kept {
 	struct wire_reply reply;
-	int file[WIRE_REPLY_FILES];
+	struct came room, *came;
 };
 
 int begin_ask(struct ask *ask, uint32_t op);
@@ -224,19 +237,19 @@ struct sent {
 	bool is_released[LIBDOOR_PASSED + 1];
 };
 
-struct came {
-	unsigned count;
-	struct wire_passed passed[WIRE_PASSED];
-	int file[WIRE_PASSED];
-	bool is_beside; /* the bytes came as a file: */
-	int beside;     /* that is -1 where this process had no room for it */
-};
-
 int put_message(struct ask *ask, struct sent *sent, const char *data, size_t size, const door_desc_t *desc, uint_t count);
 void release_sent(struct sent *sent);
-void take_came(struct ask *ask, struct came *came);
-int place_came(const struct came *came, door_desc_t *desc);
-void drop_came(const struct came *came, const door_desc_t *desc, unsigned placed);
+struct came *take_came(struct ask *ask, struct came *room);
+int place_came(struct came *came, door_desc_t *desc);
+
+/* libdoor_given.c: what came, and a handler of signals may jump away from */
+struct came *note_came(struct came *came);
+void forget_came(struct came *came);
+void drop_came(struct came *came);
+struct given *begin_over_given(uintptr_t handler);
+void end_over_given(struct given *given);
+void drop_given(bool is_end);
+void forget_given(void);
 
 /* libdoor_long.c: messages of more bytes than the kernel takes */
 int write_beside(const char *data, size_t size);

@@ -74,6 +74,8 @@ int begin_ask(struct ask *ask, uint32_t op)
 		return -1;
 	if (!atomic_load_explicit(connection.mark, memory_order_relaxed))
 		return refuse_child();
+	if (thread.given)
+		drop_given(false);
 	if (enter_request(ask) < 0)
 		return -1;
 	prepare(ask);
@@ -292,8 +294,7 @@ void end_call_for_handler(struct ask *ask)
 	} while (again);
 	const struct wire_reply *reply = &ask->slot->reply;
 	memcpy(&ask->kept->reply, reply, offsetof(struct wire_reply, data) + reply->data_size);
-	if (reply->files > 0)
-		receive_files(ask->index, ask->number, ask->kept->file, reply->files);
+	ask->kept->came = take_came(ask, &ask->kept->room);
 	atomic_store_explicit(&ask->slot->turn, WIRE_MINE, memory_order_relaxed);
 	ask->is_kept = true;
 }

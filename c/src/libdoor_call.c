@@ -59,17 +59,6 @@ static void tell(door_arg_t *arg, const struct room *room, unsigned count)
 	arg->desc_num = count;
 }
 
-/* There is nobody, or no room, for the results: what came with them is closed. */
-static void drop_results(struct ask *ask, const struct came *came)
-{
-	int error = errno;
-	door_desc_t desc[WIRE_PASSED];
-
-	end_ask(ask);
-	drop_came(came, desc, 0);
-	errno = error;
-}
-
 /* The bytes, where there is room for them: -1 and errno where there is none. */
 static int take_bytes(const struct ask *ask, const struct came *came, const door_arg_t *arg, struct room *room)
 {
@@ -90,25 +79,29 @@ static int take_bytes(const struct ask *ask, const struct came *came, const door
 	return 0;
 }
 
+/* They are the program's before a handler that was put off runs, which may jump away. */
 static int take_results(struct ask *ask, door_arg_t *arg)
 {
 	struct room room;
-	struct came came;
+	struct came own, *came = take_came(ask, &own);
+	int result = arg ? take_bytes(ask, came, arg, &room) : 0;
 
-	take_came(ask, &came);
-	int result = arg ? take_bytes(ask, &came, arg, &room) : 0;
-	if (came.beside >= 0)
-		close_beside(came.beside);
+	if (arg && result == 0 && came->count > 0 && place_came(came, (door_desc_t *)(void *)(room.at + room.descriptors)) < 0) {
+		give_room_back(&room);
+		result = -1;
+	}
 	if (!arg || result < 0) {
-		drop_results(ask, &came);
+		int error = errno;
+		end_ask(ask);
+		drop_came(came);
+		errno = error;
 		return result;
 	}
+	if (came->beside >= 0)
+		close_beside(came->beside);
+	tell(arg, &room, came->count);
+	forget_came(came);
 	end_ask(ask);
-	if (came.count > 0 && place_came(&came, (door_desc_t *)(void *)(room.at + room.descriptors)) < 0) {
-		give_room_back(&room);
-		return -1;
-	}
-	tell(arg, &room, came.count);
 	return 0;
 }
 

@@ -117,63 +117,47 @@ void release_sent(struct sent *sent)
 	sent->count = 0;
 }
 
-/* The descriptors of an answer, and the file of its bytes where they come so, before it ends. */
-void take_came(struct ask *ask, struct came *came)
+/* The descriptors of an answer, and the file of its bytes where they come so, before it ends. They are in `room`, or noted. */
+struct came *take_came(struct ask *ask, struct came *room)
 {
-	const struct wire_reply *reply = ask->reply;
+	const struct wire_reply *reply = &ask->slot->reply;
 	int file[WIRE_REPLY_FILES + 1];
+	unsigned files = 0;
 
-	came->count = reply->passed;
-	came->is_beside = (reply->flags & WIRE_BESIDE) != 0;
-	came->beside = -1;
-	if (reply->passed == 0 && !came->is_beside)
-		return;
-	memcpy(came->passed, reply->item, reply->passed * sizeof *reply->item);
+	if (ask->is_kept)
+		return ask->kept->came;
+	room->count = reply->passed;
+	room->is_beside = (reply->flags & WIRE_BESIDE) != 0;
+	room->beside = -1;
+	room->is_noted = false;
+	if (reply->passed == 0 && !room->is_beside)
+		return room;
+	memcpy(room->passed, reply->item, reply->passed * sizeof *reply->item);
 	for (unsigned i = 0; i <= WIRE_REPLY_FILES; i++)
 		file[i] = -1;
-	if (reply->files > 0 && ask->is_kept)
-		memcpy(file, ask->kept->file, reply->files * sizeof(int));
-	else if (reply->files > 0)
+	if (reply->files > 0)
 		receive_files(ask->index, ask->number, file, reply->files);
-	if (came->is_beside)
-		came->beside = file[0];
-	memcpy(came->file, came->is_beside ? file + 1 : file, sizeof came->file);
+	if (room->is_beside)
+		room->beside = file[files++];
+	for (unsigned i = 0; i < room->count; i++)
+		room->fd[i] = room->passed[i].fd == WIRE_NO_FD ? file[files++] : -1;
+	return note_came(room);
 }
 
-/* All that came is closed again; so many have descriptors already. */
-void drop_came(const struct came *came, const door_desc_t *desc, unsigned placed)
+/* Descriptors of the program for what came: 0, or -1 and EMFILE where one has no room; then what came is to be dropped. */
+int place_came(struct came *came, door_desc_t *desc)
 {
-	unsigned files = 0;
-
-	for (unsigned i = 0; i < came->count; i++) {
-		bool is_file = came->passed[i].fd == WIRE_NO_FD;
-		int fd = is_file ? came->file[files++] : i < placed ? desc[i].d_data.d_desc.d_descriptor : -1;
-		if (!is_file)
-			(void)ask_about(KERNEL_OP_CLOSE, came->passed[i].fd);
-		if (fd >= 0) {
-			(void)forget_stand_in(fd);
-			(void)syscall(SYS_close, fd);
-		}
-	}
-}
-
-/* Descriptors of the program for what came: 0, or -1 and EMFILE where one has no room; then none is there. */
-int place_came(const struct came *came, door_desc_t *desc)
-{
-	unsigned files = 0;
-
 	for (unsigned i = 0; i < came->count; i++) {
 		const struct wire_passed *passed = &came->passed[i];
-		int fd = passed->fd == WIRE_NO_FD ? came->file[files++] 
-			: new_stand_in(passed->fd, O_RDWR | (passed->id == 0 ? STAND_IN_PORT : 0));
-		if (fd < 0) {
-			drop_came(came, desc, i);
+		if (passed->fd != WIRE_NO_FD)
+			came->fd[i] = new_stand_in(passed->fd, O_RDWR | (passed->id == 0 ? STAND_IN_PORT : 0));
+		if (came->fd[i] < 0) {
 			errno = EMFILE;
 			return -1;
 		}
 		memset(&desc[i], 0, sizeof desc[i]);
 		desc[i].d_attributes = DOOR_DESCRIPTOR | passed->attributes;
-		desc[i].d_data.d_desc.d_descriptor = fd;
+		desc[i].d_data.d_desc.d_descriptor = came->fd[i];
 		desc[i].d_data.d_desc.d_id = passed->id;
 	}
 	return 0;

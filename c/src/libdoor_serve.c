@@ -10,7 +10,7 @@
 /* What an invocation has. It lies in the frame of the thread's first door_return, to which each further one goes back. */
 struct service {
 	struct ask ask;
-	struct came came;
+	struct came room, *came;
 	door_desc_t desc[WIRE_PASSED];
 	alignas(16) char data[WIRE_REPLY];
 };
@@ -87,26 +87,27 @@ static int take_wait_over(struct service *service)
 }
 
 /* Descriptors for what came; the client waits for its results, so the procedure runs also where one has no room, without it. */
-static unsigned place_arguments(struct service *service)
+static bool place_arguments(struct service *service)
 {
 	static _Atomic int said;
-	unsigned count = service->came.count;
 
-	if (count == 0 || place_came(&service->came, service->desc) == 0)
-		return count;
+	if (place_came(service->came, service->desc) == 0)
+		return true;
 	say_once(&said, "libdoor: EMFILE: no descriptors are free for those that came with a call");
-	return 0;
+	return false;
 }
 
-/* The bytes of an invocation, once what came with it is taken: NULL where there is no room for them. */
+/* The bytes of an invocation: NULL where there is no room for them. */
 static char *place_bytes(struct service *service, size_t *size)
 {
 	static _Atomic int said;
+	struct came *came = service->came;
 
 	forget_argument();
-	if (!service->came.is_beside)
+	if (!came->is_beside)
 		return service->data;
-	char *data = take_argument(service->came.beside, size);
+	char *data = take_argument(came->beside, size);
+	came->beside = -1;
 	if (!data)
 		say_once(&said, "libdoor: EMFILE: there is no room for the bytes of a call: it ends with EINTR");
 	return data;
@@ -121,22 +122,26 @@ static void invoke(struct service *service)
 	size_t size = reply->data_size;
 
 	memcpy(service->data, reply->data, size);
-	take_came(&service->ask, &service->came);
-	end_ask(&service->ask);
+	service->came = take_came(&service->ask, &service->room);
 	char *data = place_bytes(service, &size);
+	bool has_all = data && place_arguments(service);
+	unsigned count = has_all ? service->came->count : 0;
+	/* from here on handlers run, which may jump away from what is not the program's yet */
+	end_ask(&service->ask);
+	if (!has_all)
+		drop_came(service->came);
 	const struct own_door *door = own_door(number);
 	bool is_invocation = kind == KERNEL_ANSWER_ENTERED || kind == KERNEL_ANSWER_NOTICE;
 	if (!is_invocation || !door || !atomic_load_explicit(&door->is_there, memory_order_acquire))
 		return;
 	if (flags & WIRE_POOL)
 		pool_is_empty(number);
-	if (!data) {
-		drop_came(&service->came, service->desc, 0);
+	if (!data)
 		return;
-	}
-	unsigned count = place_arguments(service);
 	let_signals_in();
 	begin_service(request);
+	if (has_all)
+		forget_came(service->came);
 	if (kind == KERNEL_ANSWER_NOTICE)
 		door->procedure(door->cookie, DOOR_UNREF_DATA, 0, NULL, 0);
 	else

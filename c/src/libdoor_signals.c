@@ -156,10 +156,12 @@ static void wrapper(int number, siginfo_t *info, void *context)
 	}
 	if (at == AT_CALL && !ask->is_kept)
 		end_call_for_handler(ask);
+	struct given *given = begin_over_given((uintptr_t)__builtin_frame_address(0));
 	if (at != AT_WAIT)
 		set_at(AT_PROGRAM);
 	errno = error;
 	run_handler(number, info, context);
+	end_over_given(given);
 	/* where the handler has forked, the child's thread is at nothing any more */
 	if (generation == atomic_load(&connection.generation)) {
 		thread.ask = ask;

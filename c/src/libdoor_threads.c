@@ -116,9 +116,6 @@ static void leave_request(void)
 		resume_ask(&ask);
 		ask.kept = &kept;
 		end_call_for_handler(&ask);
-		for (unsigned i = 0; i < kept.reply.files; i++)
-			if (kept.file[i] >= 0)
-				close_beside(kept.file[i]);
 	}
 	thread.ask = NULL;
 	set_at(AT_PROGRAM);
@@ -155,10 +152,12 @@ static void leave(void *unused)
 		return;
 	if (thread.at == AT_WAIT) {
 		leave_wait();
+		drop_given(true);
 		return;
 	}
 	(void)end_service();
 	leave_request();
+	drop_given(true);
 	begin_end(thread.index);
 	if (begin_ask(&ask, WIRE_LEAVE) == 0)
 		(void)ask_simply(&ask);
@@ -193,6 +192,7 @@ void forget_threads(void)
 	thread.slot = NULL;
 	thread.ask = NULL;
 	set_at(AT_PROGRAM);
+	forget_given();
 }
 
 bool is_on_stack_of_handlers(uintptr_t address)
@@ -206,6 +206,12 @@ static bool is_left(uintptr_t handler, uintptr_t here)
 	bool has_own = is_on_stack_of_handlers(handler), is_there = is_on_stack_of_handlers(here);
 
 	return has_own == is_there ? here > handler : has_own;
+}
+
+/* Whether the handler of this frame was left. */
+bool is_frame_left(uintptr_t frame)
+{
+	return is_left(frame, (uintptr_t)__builtin_frame_address(0));
 }
 
 /* Whether the thread runs a handler of signals now. */

@@ -16,6 +16,15 @@ case_handlers_leave() {
     gives 'done'
 }
 
+# Descriptors and bytes that came with the results of a call are closed where a handler jumps away from them, at the thread's next request or
+# its end, and in a child that a handler forks; they are there where it comes back.
+case_results_that_a_handler_leaves() {
+    run 'up abandons serve w; doorwait w; abandons call w 100' -b 'abandons=2,1,0' -b 'abandons=3,0,0'
+    gives 'done'
+    run 'up abandons serve w; doorwait w; abandons call w 100 long' --long -b 'abandons=2,1,0' -b 'abandons=3,0,0'
+    gives 'done'
+}
+
 case_deeds_of_handlers() {
     run 'up serve w other; doorwait other; deeds & pid=$!; seen "= enter c1 "; touch now; wait $pid' -b 'deeds=3,0,0'
     gives 'call: EINTR' 'done'
