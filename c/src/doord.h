@@ -454,11 +454,28 @@ struct look {
 };
 
 void note_pipes(void);
+bool sleeps_inside(pid_t process, const char *call);
 pid_t parent_of(pid_t pid);
 bool is_below(pid_t pid);
 void each_below(void (*act)(pid_t pid, void *with), void *with);
 void look_at_all(struct look *look);
 bool is_same_look(const struct look *a, const struct look *b);
+
+/* doord_still.c: whether all is quiet, so that a turn may be chosen, or time may pass */
+enum stillness {
+	STILL_NOT,     /* somebody runs, or is about to */
+	STILL_OUTSIDE, /* all sleep, and some for a time, in a read, at descriptors or stopped, and not yet for as long as patience says */
+	STILL_LONG,    /* the same, but for so long: they are waited for no more */
+	STILL_ALL,     /* all sleep, for doord or for each other */
+};
+
+/*
+ * Does not wait. Where it is not STILL_NOT there was a moment in this call at which each thread of each process below doord slept: until
+ * doord answers, or a time is over, or somebody outside does something, nobody wakes. What was asked before that moment stands in the pages
+ * and sockets, and may not have been taken. `waited` is since when, by now(), those outside are waited for at least.
+ */
+enum stillness look_still(uint64_t waited);
+unsigned rank_below(pid_t pid);
 
 /* doord_quiet.c: the end of what COMMAND left behind */
 uint64_t now(void);

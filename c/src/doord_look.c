@@ -98,13 +98,11 @@ static bool is_connected(pid_t pid)
 }
 
 /* libdoor waits for doord with a time, and is alone in waiting so for a word that is shared. */
-static bool waits_for_doord(pid_t process, const char *call)
+static bool waits_for_doord(const char *call)
 {
 	long number;
 	unsigned long word[4] = { 0 };
 
-	if (!is_connected(process))
-		return false;
 	if (sscanf(call, "%ld %lx %lx %lx %lx", &number, &word[0], &word[1], &word[2], &word[3]) < 5)
 		return false;
 	return number == SYS_futex && word[1] == FUTEX_WAIT && word[3] != 0;
@@ -157,6 +155,18 @@ static bool waits_for_inner_pipe(pid_t process, const char *call)
 	return true;
 }
 
+/* The thread has ended, and its process was not waited for yet, or goes on by other threads: it has no stack any more. */
+static bool has_ended(const char *call)
+{
+	return strcmp(call, "-1 0x0 0x0\n") == 0;
+}
+
+/* Whether what this thread sleeps in, as the system tells it, is ended by doord, or by others below, and by nothing else. */
+bool sleeps_inside(pid_t process, const char *call)
+{
+	return waits_for_doord(call) || sleeps_for_others(call) || has_ended(call) || waits_for_inner_pipe(process, call);
+}
+
 static void note_pipe(int fd)
 {
 	struct stat found;
@@ -206,7 +216,7 @@ static void see_sleeper(struct look *look, struct seen *seen)
 	snprintf(name, sizeof name, "/proc/%d/task/%d/syscall", (int)seen->process, (int)seen->thread);
 	if (!read_file(name, text, sizeof text)) {
 		look->is_outside = look->is_movable = true;
-	} else if (waits_for_doord(seen->process, text)) {
+	} else if (is_connected(seen->process) && waits_for_doord(text)) {
 		seen->switches = 0;
 	} else if (!sleeps_for_others(text)) {
 		look->is_outside = true;
